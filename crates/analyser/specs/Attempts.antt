@@ -7,7 +7,7 @@ use Rattle.certificate_lines.specs.CertificateInCode.{Kept, claims, meaning}
 use Rattle.instruct.specs.declared.Profile.{Profile}
 use Rattle.analyser.specs.Accepted.{IsAccepted}
 use Rattle.certificate_lines.specs.declared.Version.{Version}
-use Rattle.analyser.specs.Versions.{version_of, drafted_version, IsVersionFor}
+use Rattle.analyser.specs.Versions.{IsVersionFor}
 use Rattle.analyser.specs.declared.Attempt.{Attempt}
 use Rattle.analyser.specs.declared.Attempt.TheVariants.{Found, Stuck}
 
@@ -42,17 +42,15 @@ abbrev pub IsDraftIfStuck : {A : Type 0} → Declaration → Attempt A → Type 
 IsDraftIfStuck d (Found c) = ⊤
 IsDraftIfStuck d (Stuck at c) = IsDraft d at (claims c)
 
--- What was found is of the version of the machine or of version 3, and a draft is of the former.
+-- What was found is of the version of the machine or of version 3, and so is a draft.
 abbrev pub HasVersionFor : {A : Type 0} → Profile → Attempt A → Type 0
-HasVersionFor p (Found c) = IsVersionFor p (meaning c).version
-HasVersionFor p (Stuck at c) = (meaning c).version ≡ version_of p
+HasVersionFor p attempt = IsVersionFor p (meaning (claimed_by attempt)).version
 
--- What a search for one version found is of that version, and a draft is of the version in which such a search drafts.
+-- What a search for one version found is of that version, and so is a draft, whatever the machine.
 abbrev pub HasVersion : {A : Type 0} → Profile → Version → Attempt A → Type 0
-HasVersion p v (Found c) = (meaning c).version ≡ v
-HasVersion p v (Stuck at c) = (meaning c).version ≡ drafted_version p v
+HasVersion p v attempt = (meaning (claimed_by attempt)).version ≡ v
 
--- A certificate is found; it serves private contracts.
+-- A certificate is found.
 abbrev pub is_found : {A : Type 0} → Attempt A → Bool
 is_found (Found c) = true
 is_found (Stuck at c) = false

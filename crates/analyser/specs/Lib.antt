@@ -1,4 +1,3 @@
 pub mod Accepted
 pub mod Attempts
-pub mod Halts
 pub mod Versions

@@ -13,9 +13,3 @@ version_of Pdp8E = Two
 -- What is found is of the version of the machine, or of version 3.
 abbrev pub IsVersionFor : Profile → Version → Type 0
 IsVersionFor p v = (v ≡ version_of p) ⊎ (v ≡ Three)
-
--- A search for version 1 or 2 drafts in that version, and one for version 3 in the version of the machine.
-abbrev pub drafted_version : Profile → Version → Version
-drafted_version p One = One
-drafted_version p Two = Two
-drafted_version p Three = version_of p

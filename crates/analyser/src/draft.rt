@@ -11,6 +11,13 @@ use declaration::Declaration;
 use std::alloc::Allocator;
 use word12::Word;
 
+/// A certificate that the judge refuses, and the address at which it does.
+#[derive(Drop)]
+pub(crate) struct Draft<A: Allocator> {
+    pub(crate) at: Word,
+    pub(crate) certificate: Certificate<A>,
+}
+
 /// Whether there is a fact at an address.
 #[tactic(auto, using(crate::proofs::DraftLemmas::any_skipped))]
 fn has_fact<A: Allocator>(draft: &Certificate<A>, at: Word) -> bool

@@ -3,29 +3,25 @@
 
 ghost use Rattle.std.specs.Prelude.{◌≡◌, ◌≢◌, ◌≤◌, IfErr, IfOk};
 ghost use Rattle.declaration.specs.DeclarationInCode.{meaning as declared};
-ghost use Rattle.certificate_lines.specs.CertificateInCode.{claims, meaning};
+ghost use Rattle.certificate_lines.specs.CertificateInCode.{meaning};
 ghost use Rattle.certificate.specs.Exact.{AreLines};
 ghost use Rattle.certificate_lines.specs.declared.Version.TheVariants.{Three};
-ghost use Rattle.judge.specs.Judged.{judged};
 ghost use Rattle.turns.specs.Counts.{IsSpentUp};
 ghost use Rattle.turns.specs.declared.GuessFault.TheVariants.{TurnsSpent};
 ghost use Rattle.analyser.specs.Accepted.{Finds, IsAccepted};
-ghost use Rattle.analyser.specs.Attempts.{HasVersion, HasVersionFor, IsAcceptedIfFound, IsDraftIfStuck, claimed_by, is_found};
-ghost use Rattle.analyser.specs.Halts.{IsRefused};
+ghost use Rattle.analyser.specs.Attempts.{HasVersion, HasVersionFor, IsAcceptedIfFound, IsDraftIfStuck, claimed_by};
 ghost use Rattle.analyser.specs.Versions.{IsVersionFor, version_of};
 
 mod draft;
-mod length;
 mod sums;
 
-use crate::draft::is_draft;
-use crate::length::is_short;
+use crate::draft::{Draft, is_draft};
 use crate::sums::found_by_sums;
 use bin_tape::Image;
 use certificate::Certificate;
 use certificate_lines::Version;
 use declaration::Declaration;
-use fixpoint::{AnalysedProgram, MANY_RUNS, ONE_RUN, Patience, Search, SearchFault};
+use fixpoint::{AnalysedProgram, PATIENCES, Patience, SETTINGS, Search, SearchFault};
 use instruct::Profile;
 use judge::{JudgeWorkspace, judge};
 use std::alloc::Allocator;
@@ -45,15 +41,6 @@ pub enum Attempt<A: Allocator> {
     Stuck(Word, Certificate<A>),
 }
 
-impl<A: Allocator> Attempt<A> {
-    /// Whether a certificate is found.
-    fn is_found(&self) -> bool
-        ensures { result ≡ is_found self.now }
-    {
-        matches!(self, Attempt::Found(_))
-    }
-}
-
 /// The version of the certificates for a machine.
 fn version_of(profile: Profile) -> Version
     ensures { result ≡ version_of profile }
@@ -64,17 +51,16 @@ fn version_of(profile: Profile) -> Version
     }
 }
 
-/// A certificate, if the judge accepts it.
+/// A certificate, if the judge accepts it; else it becomes the lent draft.
 fn accepted<A: Allocator + Copy, D: Allocator>(
     alloc: A,
     image: &Image,
     declaration: &Declaration<D>,
     certificate: Certificate<A>,
+    draft: &mut Option<Draft<A>>,
 ) -> Result<Certificate<A>, GuessFault>
     ensures same { IfOk result (λ c. c ≡ certificate) }
     ensures accepted { IfOk result (IsAccepted image.now declaration.now) }
-    ensures refused { IfErr result
-        (IsRefused (judged image.now declaration.now (claims certificate))) }
     ensures left { IfErr result (λ fault. fault ≢ TurnsSpent) }
 {
     let Ok(mut rooms) = JudgeWorkspace::boxed(alloc) else {
@@ -82,7 +68,11 @@ fn accepted<A: Allocator + Copy, D: Allocator>(
     };
     match judge(image, declaration, &certificate, &mut rooms) {
         Ok(()) => Ok(certificate),
-        Err(refusal) => Err(GuessFault::Stuck(refusal.address)),
+        Err(refusal) => {
+            let at = refusal.address;
+            *draft = Some(Draft { at, certificate });
+            Err(GuessFault::Stuck(at))
+        }
     }
 }
 
@@ -92,7 +82,7 @@ fn found_with<A: Allocator + Copy, D: Allocator>(
     search: &mut Search<A>,
     program: &AnalysedProgram<'_, D>,
     version: Version,
-    patience: Patience,
+    patience: &Patience,
     turns: &mut Turns,
 ) -> Result<Certificate<A>, GuessFault>
     ensures { Finds program.now.image.now program.now.declaration.now version turns.old turns.new
@@ -100,7 +90,11 @@ fn found_with<A: Allocator + Copy, D: Allocator>(
 {
     search.run_with(program, patience, turns)?;
     match search.finish(program, version) {
-        Ok(certificate) => accepted(alloc, program.image, program.declaration, certificate),
+        Ok(certificate) => {
+            let mut refused = None;
+            let (image, declaration) = (program.image, program.declaration);
+            accepted(alloc, image, declaration, certificate, &mut refused)
+        }
         Err(halt) => Err(halt.fault()),
     }
 }
@@ -118,23 +112,19 @@ fn found_by<A: Allocator + Copy, D: Allocator>(
         result }
 {
     turns.are_within();
-    let found = found_with(alloc, search, program, version, Patience::Soon, turns);
-    let Err(GuessFault::Stuck(_)) = &found else {
-        return found;
-    };
-    let found = found_with(alloc, search, program, version, Patience::QuickBack, turns);
-    let Err(GuessFault::Stuck(_)) = &found else {
-        return found;
-    };
-    let found = found_with(alloc, search, program, version, Patience::Patient, turns);
-    let Err(GuessFault::Stuck(_)) = &found else {
-        return found;
-    };
-    found_with(alloc, search, program, version, Patience::OfAllCells, turns)
+    let mut stuck = program.declaration.start();
+    for patience in &PATIENCES {
+        let found = found_with(alloc, search, program, version, patience, turns);
+        let Err(GuessFault::Stuck(at)) = &found else {
+            return found;
+        };
+        stuck = *at;
+    }
+    Err(GuessFault::Stuck(stuck))
 }
 
-/// Searches, and gives the certificate of what was found. If its text is too long to be read again,
-/// one more search fills all sets, and what it finds takes the place of that certificate.
+/// Searches, and gives the certificate of what was found. If a text is too long to be read again and no other is found, one more
+/// search fills all sets.
 fn found_within<A: Allocator + Copy, D: Allocator>(
     alloc: A,
     search: &mut Search<A>,
@@ -145,24 +135,34 @@ fn found_within<A: Allocator + Copy, D: Allocator>(
     ensures { Finds program.now.image.now program.now.declaration.now version turns.old turns.new
         result }
 {
-    let certificate = found_by(alloc, search, program, version, turns)?;
-    if is_short(&certificate) {
-        return Ok(certificate);
+    turns.are_within();
+    let found = found_by(alloc, search, program, version, turns);
+    let Err(GuessFault::Stuck(_)) = &found else {
+        return found;
+    };
+    if !search.has_long_text() {
+        return found;
     }
-    let filled = AnalysedProgram::of(program.image, program.declaration, ONE_RUN);
-    match found_by(alloc, search, &filled, version, turns) {
-        Ok(shorter) => Ok(shorter),
-        Err(GuessFault::NoMemory) => Err(GuessFault::NoMemory),
-        Err(_) => Ok(certificate),
+    let filled = AnalysedProgram::of(program.image, program.declaration, SETTINGS.fewest_runs);
+    found_by(alloc, search, &filled, version, turns)
+}
+
+/// Where a search is stuck: where its draft is, if there is one, else where the first search is.
+fn stuck_at<A: Allocator>(draft: &Option<Draft<A>>, first: Word) -> Word {
+    match draft {
+        Some(found) => found.at,
+        None => first,
     }
 }
 
-/// What a search found, or where it is stuck a certificate of version 3, if one is found; else the fault of the first.
+/// What a search found, or where it is stuck a certificate of version 3, if one is found; else where the search for that one has
+/// its draft, or where the first search is stuck.
 fn or_by_sums<A: Allocator + Copy, D: Allocator>(
     alloc: A,
     image: &Image,
     declaration: &Declaration<D>,
     found: Result<Certificate<A>, GuessFault>,
+    draft: &mut Option<Draft<A>>,
     turns: &mut Turns,
 ) -> Result<Certificate<A>, GuessFault>
     requires lines { IfOk found (λ c. AreLines (meaning c)) }
@@ -183,10 +183,33 @@ fn or_by_sums<A: Allocator + Copy, D: Allocator>(
     let Err(GuessFault::Stuck(at)) = &found else {
         return found;
     };
-    match found_by_sums(alloc, image, declaration, turns) {
+    match found_by_sums(alloc, image, declaration, draft, turns) {
         Ok(certificate) => Ok(certificate),
         Err(GuessFault::NoMemory) => Err(GuessFault::NoMemory),
-        Err(_) => Err(GuessFault::Stuck(*at)),
+        Err(_) => Err(GuessFault::Stuck(stuck_at(draft, *at))),
+    }
+}
+
+/// The draft of a search for version 3 that found nothing.
+fn drafted_by_sums<A: Allocator, D: Allocator>(
+    image: &Image,
+    declaration: &Declaration<D>,
+    draft: Draft<A>,
+) -> Result<Attempt<A>, GuessFault>
+    ensures lines { IfOk result (λ a. AreLines (meaning (claimed_by a))) }
+    ensures version { IfOk result (λ a. (meaning (claimed_by a)).version ≡ Three) }
+    ensures accepted { IfOk result (IsAcceptedIfFound image.now declaration.now) }
+    ensures draft { IfOk result (IsDraftIfStuck (declared declaration.now)) }
+    ensures left { IfErr result (λ fault. fault ≢ TurnsSpent) }
+{
+    let _words = image;
+    let Draft { at, certificate } = draft;
+    certificate.is_certificate();
+    match certificate.version() {
+        Version::Three if is_draft(declaration, &certificate, at) => {
+            Ok(Attempt::Stuck(at, certificate))
+        }
+        _ => Err(GuessFault::Stuck(at)),
     }
 }
 
@@ -241,11 +264,12 @@ pub fn guess_within<A: Allocator + Copy, D: Allocator>(
     ensures spent { IfErr result (IsSpentUp turns.new) }
 {
     turns.are_within();
-    let program = AnalysedProgram::of(image, declaration, MANY_RUNS);
+    let program = AnalysedProgram::of(image, declaration, SETTINGS.most_runs);
     let mut search = Search::new(alloc);
     let version = version_of(declaration.profile());
     let found = found_within(alloc, &mut search, &program, version, turns);
-    or_by_sums(alloc, image, declaration, found, turns)
+    let mut draft = None;
+    or_by_sums(alloc, image, declaration, found, &mut draft, turns)
 }
 
 /// Looks for a guess within 2,000,000 turns, and returns how many were taken.
@@ -319,13 +343,17 @@ pub fn guess_or_draft_within<A: Allocator + Copy, D: Allocator>(
     ensures spent { IfErr result (IsSpentUp turns.new) }
 {
     turns.are_within();
-    let program = AnalysedProgram::of(image, declaration, MANY_RUNS);
+    let program = AnalysedProgram::of(image, declaration, SETTINGS.most_runs);
     let mut search = Search::new(alloc);
     let version = version_of(declaration.profile());
     let found = found_within(alloc, &mut search, &program, version, turns);
-    match or_by_sums(alloc, image, declaration, found, turns) {
+    let mut draft = None;
+    match or_by_sums(alloc, image, declaration, found, &mut draft, turns) {
         Ok(certificate) => Ok(Attempt::Found(certificate)),
-        Err(fault) => drafted_by(&mut search, &program, version, &fault),
+        Err(fault) => match draft {
+            Some(found) => drafted_by_sums(image, declaration, found),
+            None => drafted_by(&mut search, &program, version, &fault),
+        },
     }
 }
 
@@ -398,9 +426,10 @@ pub fn guess_version<A: Allocator + Copy, D: Allocator>(
 {
     let mut turns = Turns::new(MOST_TURNS);
     if version == Version::Three {
-        return found_by_sums(alloc, image, declaration, &mut turns);
+        let mut draft = None;
+        return found_by_sums(alloc, image, declaration, &mut draft, &mut turns);
     }
-    let program = AnalysedProgram::of(image, declaration, MANY_RUNS);
+    let program = AnalysedProgram::of(image, declaration, SETTINGS.most_runs);
     let mut search = Search::new(alloc);
     found_within(alloc, &mut search, &program, version, &mut turns)
 }
@@ -418,7 +447,7 @@ fn found_or_drafted<A: Allocator + Copy, D: Allocator>(
     ensures lines { IfOk result (λ a. AreLines (meaning (claimed_by a))) }
     ensures version { IfOk result (λ a. (meaning (claimed_by a)).version ≡ version) }
 {
-    let program = AnalysedProgram::of(image, declaration, MANY_RUNS);
+    let program = AnalysedProgram::of(image, declaration, SETTINGS.most_runs);
     let mut search = Search::new(alloc);
     match found_within(alloc, &mut search, &program, version, turns) {
         Ok(certificate) => Ok(Attempt::Found(certificate)),
@@ -426,33 +455,7 @@ fn found_or_drafted<A: Allocator + Copy, D: Allocator>(
     }
 }
 
-/// The draft of the search for a certificate in the version of the machine, where a search for one of version 3 is stuck. Where
-/// the former finds a certificate, and for any other fault of the latter, this fault is reported.
-fn drafted<A: Allocator + Copy, D: Allocator>(
-    alloc: A,
-    image: &Image,
-    declaration: &Declaration<D>,
-    fault: &GuessFault,
-    turns: &mut Turns,
-) -> Result<Attempt<A>, GuessFault>
-    ensures accepted { IfOk result (IsAcceptedIfFound image.now declaration.now) }
-    ensures draft { IfOk result (IsDraftIfStuck (declared declaration.now)) }
-    ensures lines { IfOk result (λ a. AreLines (meaning (claimed_by a))) }
-    ensures version { IfOk result (HasVersion (declared declaration.now).profile Three) }
-{
-    let GuessFault::Stuck(_) = fault else {
-        return Err(*fault);
-    };
-    let version = version_of(declaration.profile());
-    let attempt = found_or_drafted(alloc, image, declaration, version, turns)?;
-    if attempt.is_found() {
-        return Err(*fault);
-    }
-    Ok(attempt)
-}
-
-/// Looks for a certificate of one version as `guess_version` does, and gives a draft of one where it is stuck: in version 3 that
-/// of the search for a certificate in the version of the machine, if this is stuck too.
+/// Looks for a certificate of one version as `guess_version` does, and gives a draft of one where it is stuck.
 ///
 /// # Errors
 ///
@@ -475,8 +478,12 @@ pub fn guess_version_or_draft<A: Allocator + Copy, D: Allocator>(
     if version != Version::Three {
         return found_or_drafted(alloc, image, declaration, version, &mut turns);
     }
-    match found_by_sums(alloc, image, declaration, &mut turns) {
+    let mut draft = None;
+    match found_by_sums(alloc, image, declaration, &mut draft, &mut turns) {
         Ok(certificate) => Ok(Attempt::Found(certificate)),
-        Err(fault) => drafted(alloc, image, declaration, &fault, &mut turns),
+        Err(fault) => match draft {
+            Some(found) => drafted_by_sums(image, declaration, found),
+            None => Err(fault),
+        },
     }
 }

@@ -1,8 +1,7 @@
 //! Why a search comes to a halt though turns are left.
 
-ghost use Rattle.std.specs.Prelude.{◌≡◌, ◌≢◌};
+ghost use Rattle.std.specs.Prelude.{◌≢◌};
 ghost use Rattle.turns.specs.declared.GuessFault.TheVariants.{TurnsSpent};
-ghost use Rattle.fixpoint.specs.Halts.{fault_of};
 
 use turns::GuessFault;
 use word12::Word;
@@ -19,8 +18,7 @@ pub enum SearchFault {
 impl SearchFault {
     /// The fault that is told.
     pub fn fault(&self) -> GuessFault
-        ensures same { result ≡ fault_of self.now }
-        ensures left { result ≢ TurnsSpent }
+        ensures { result ≢ TurnsSpent }
     {
         match self {
             SearchFault::Stuck(at) => GuessFault::Stuck(*at),

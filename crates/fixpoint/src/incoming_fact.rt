@@ -1,10 +1,5 @@
 //! What is known where a run comes to an address.
 
-ghost use Rattle.std.specs.Prelude.{◌≡◌};
-ghost use Rattle.wordset.specs.Lanes.{words};
-ghost use Rattle.domain.specs.LocationsInCode.{location_of};
-ghost use Rattle.domain.specs.Brief.{brief_words};
-
 use domain::{
     BriefSet, Location, Relation, ReturnOffsets, Rules, Sum, Term, is_same_location, negated,
     product,
@@ -23,9 +18,7 @@ pub(crate) struct IncomingFact<'a, F: KnownFact> {
 }
 
 /// The words of a set, kept as a row where they are one.
-pub(crate) fn brief(set: &WordSet) -> BriefSet
-    ensures { brief_words result ≡ words set.now }
-{
+pub(crate) fn brief(set: &WordSet) -> BriefSet {
     if let Some(first) = set.least() {
         if let Some(last) = set.greatest() {
             if WordSet::range(first, last) == *set {
@@ -86,9 +79,7 @@ impl<F: KnownFact> IncomingFact<'_, F> {
     }
 
     /// The words that a name may hold.
-    pub(crate) fn set(&self, name: &Location) -> WordSet
-        ensures { words result ≡ (F.known self.now.fact.now).set (location_of name.now) }
-    {
+    pub(crate) fn set(&self, name: &Location) -> WordSet {
         let mut set = WordSet::all();
         self.fact.put_set_of(name, &mut set);
         set

@@ -1,11 +1,12 @@
-//! What a fact and something else that is known say both.
+//! Facts as the first search keeps them: what is known, and what a fact and something else that is known say both.
 
 use crate::fault::SearchFault;
-use crate::incoming_fact::{IncomingFact, brief};
-use crate::invariant::{CellInvariant, Invariant, left_to};
-use crate::sums::{difference, is_left_of};
-use crate::widening::{Limits, WideningStrategy, widened};
-use domain::{Location, Relation, ReturnOffsets};
+use crate::incoming_fact::{IncomingFact, brief, has_word};
+use crate::invariant::{Case, CellInvariant, Invariant};
+use crate::settings::Pace;
+use crate::sums::{difference, is_left_of, speaks_only_of};
+use crate::widening::Limits;
+use domain::{Location, Relation, ReturnOffsets, Sum, Term, product};
 use facts::KnownFact;
 use std::alloc::Allocator;
 use word12::Word;
@@ -39,8 +40,19 @@ fn kept_between(left: &WordChange, right: &WordChange) -> Option<Relation> {
     Some(difference(left.name, cell, more))
 }
 
+/// The words that are left to a name by one step along the relations, or all of its words where the relations contradict;
+/// filled where they are ragged.
+fn left_to<F: KnownFact>(known: &IncomingFact<'_, F>, name: &Location, limits: &Limits) -> WordSet {
+    let narrowed = known.narrowed(name);
+    if narrowed.is_empty() {
+        limits.with_few_runs(&known.set(name))
+    } else {
+        limits.with_few_runs(&narrowed)
+    }
+}
+
 /// The offsets of both.
-fn joined_offsets(a: ReturnOffsets, b: ReturnOffsets) -> ReturnOffsets {
+pub(crate) fn joined_offsets(a: ReturnOffsets, b: ReturnOffsets) -> ReturnOffsets {
     if b.is_subset(a) {
         return a;
     }
@@ -89,7 +101,7 @@ fn grow<F: KnownFact>(
     line: &mut CellInvariant,
     known: &IncomingFact<'_, F>,
     limits: &Limits,
-    pace: WideningStrategy,
+    pace: &Pace,
 ) -> bool {
     let cell = line.told.cell;
     let mut old = WordSet::all();
@@ -97,7 +109,7 @@ fn grow<F: KnownFact>(
     let set = old.union(&left_to(known, &Location::Cell(cell), limits));
     let growths = line.growths.saturating_add(1);
     let counted = limits.counted.contains(cell);
-    let wide = widened(&old, &set, growths, counted, limits, pace);
+    let wide = limits.widened(pace, &old, &set, growths, counted);
     line.told.set = brief(&wide);
     line.growths = growths;
     wide.is_all()
@@ -108,7 +120,7 @@ fn grow_all<A: Allocator, F: KnownFact>(
     cells: &mut [CellInvariant],
     known: &IncomingFact<'_, F>,
     limits: &Limits,
-    pace: WideningStrategy,
+    pace: &Pace,
     moved: &mut Vec<WordChange, A>,
 ) -> Result<Growth, SearchFault> {
     let mut growth = Growth {
@@ -130,19 +142,56 @@ fn grow_all<A: Allocator, F: KnownFact>(
 }
 
 impl<A: Allocator + Copy> Invariant<A> {
-    /// Joins something else that is known: what both say is left. Tells whether less is said than
+    /// What comes to an instruction, without cells and relations.
+    pub(crate) fn without_incoming_cells<F: KnownFact>(
+        alloc: A,
+        at: Word,
+        case: Case,
+        known: &IncomingFact<'_, F>,
+        limits: &Limits,
+    ) -> Invariant<A> {
+        let mut kept = Invariant::without_cells(alloc, at, case, known.fact);
+        kept.sites = WordSet::empty();
+        kept.ac = left_to(known, &Location::Accumulator, limits);
+        kept.mq = limits.with_few_runs(known.mq());
+        kept.offsets = known.offsets;
+        kept
+    }
+
+    /// What comes to an instruction, of the tracked cells alone.
+    pub(crate) fn of_incoming<F: KnownFact>(
+        alloc: A,
+        at: Word,
+        case: Case,
+        tracked: &WordSet,
+        known: &IncomingFact<'_, F>,
+        limits: &Limits,
+    ) -> Result<Invariant<A>, SearchFault> {
+        let mut kept = Invariant::without_incoming_cells(alloc, at, case, known, limits);
+        for cell in tracked.iter() {
+            kept.track(cell, &left_to(known, &Location::Cell(cell), limits))?;
+        }
+        for relation in known.relations() {
+            if speaks_only_of(tracked, &relation.sum) && kept.wants(relation) {
+                kept.add_relation(relation)?;
+            }
+        }
+        Ok(kept)
+    }
+
+    /// Joins something else that comes to the instruction: what both say is left. Tells whether less is said than
     /// before.
-    pub(crate) fn join<F: KnownFact>(
+    pub(crate) fn join_incoming<F: KnownFact>(
         &mut self,
         alloc: A,
         known: &IncomingFact<'_, F>,
         limits: &Limits,
-        pace: WideningStrategy,
+        pace: &Pace,
     ) -> Result<bool, SearchFault> {
         let mut moved = Vec::new(alloc);
         let dropped = self.drop_relations(alloc, known)?;
         self.add_shown(known)?;
-        let registers = self.join_registers(known, limits, pace, &mut moved)?;
+        let registers = self.join_incoming_registers(known, limits, pace, &mut moved)?;
         let growth = grow_all(&mut self.cells, known, limits, pace, &mut moved)?;
         if growth.lost {
             self.drop_cells(alloc)?;
@@ -162,7 +211,7 @@ impl<A: Allocator + Copy> Invariant<A> {
         }
         let mut left = Vec::new(alloc);
         for relation in &self.relations {
-            if known.knows(relation) {
+            if known.knows(&relation.told) {
                 let Ok(()) = left.push(*relation) else {
                     return Err(SearchFault::NoMemory);
                 };
@@ -189,10 +238,57 @@ impl<A: Allocator + Copy> Invariant<A> {
 }
 
 impl<A: Allocator> Invariant<A> {
+    /// Whether a relation says something: it can be fulfilled, and not each of its names has one word.
+    fn wants(&self, relation: &Relation) -> bool {
+        !relation.set.is_empty() && self.value_of(&relation.sum).is_none()
+    }
+
+    /// Adds a relation, if there is room and none of its sum.
+    fn add_relation(&mut self, relation: &Relation) -> Result<(), SearchFault> {
+        if self.relates(&relation.sum) {
+            return Ok(());
+        }
+        self.push_relation(*relation, 0)
+    }
+
+    /// The one word that a name may hold, if there is only one.
+    fn only(&self, name: &Location) -> Option<Word> {
+        match name {
+            Location::Accumulator => self.ac.only(),
+            Location::Cell(cell) => match self.line_of(*cell) {
+                None => None,
+                Some(line) => line.told.set.only(),
+            },
+        }
+    }
+
+    /// The word of a sum, where each of the names whose words it adds may hold one word alone.
+    fn value_of(&self, sum: &Sum) -> Option<Word> {
+        let mut value = Word::ZERO;
+        for summand in sum.summands() {
+            let Term::Holding(name) = summand.term else {
+                return None;
+            };
+            let Some(word) = self.only(&name) else {
+                return None;
+            };
+            value = value.add(product(summand.coefficient, word));
+        }
+        Some(value)
+    }
+
+    /// Whether each name of a relation has one word, and these fulfil it.
+    fn shows(&self, relation: &Relation) -> bool {
+        match self.value_of(&relation.sum) {
+            None => false,
+            Some(value) => has_word(&relation.set, value),
+        }
+    }
+
     /// Whether all relations are known.
     fn knows_all<F: KnownFact>(&self, known: &IncomingFact<'_, F>) -> bool {
         for relation in &self.relations {
-            if !known.knows(relation) {
+            if !known.knows(&relation.told) {
                 return false;
             }
         }
@@ -200,14 +296,14 @@ impl<A: Allocator> Invariant<A> {
     }
 
     /// Joins the registers and the offsets, and returns whether one grew.
-    fn join_registers<F: KnownFact>(
+    fn join_incoming_registers<F: KnownFact>(
         &mut self,
         known: &IncomingFact<'_, F>,
         limits: &Limits,
-        pace: WideningStrategy,
+        pace: &Pace,
         moved: &mut Vec<WordChange, A>,
     ) -> Result<bool, SearchFault> {
-        let grew = !self.covers_registers(known);
+        let grew = !self.covers_incoming_registers(known);
         self.mq = limits.with_few_runs(&self.mq.union(known.mq()));
         self.link = self.link.union(known.link());
         self.offsets = joined_offsets(self.offsets, known.offsets);
@@ -219,12 +315,12 @@ impl<A: Allocator> Invariant<A> {
             .ac
             .union(&left_to(known, &Location::Accumulator, limits));
         self.growths = self.growths.saturating_add(1);
-        self.ac = widened(&self.ac, &set, self.growths, false, limits, pace);
+        self.ac = limits.widened(pace, &self.ac, &set, self.growths, false);
         Ok(true)
     }
 
     /// Whether MQ, the link and the offsets have no others.
-    fn covers_registers<F: KnownFact>(&self, known: &IncomingFact<'_, F>) -> bool {
+    fn covers_incoming_registers<F: KnownFact>(&self, known: &IncomingFact<'_, F>) -> bool {
         known.mq().is_subset(&self.mq)
             && known.link().is_subset(self.link)
             && known.offsets.is_subset(self.offsets)
@@ -246,7 +342,7 @@ impl<A: Allocator> Invariant<A> {
     fn add_shown<F: KnownFact>(&mut self, known: &IncomingFact<'_, F>) -> Result<(), SearchFault> {
         for relation in known.relations() {
             if self.shows(relation) && !self.keeps_all(relation, known) {
-                self.relate(relation)?;
+                self.add_relation(relation)?;
             }
         }
         Ok(())
@@ -274,7 +370,7 @@ impl<A: Allocator> Invariant<A> {
     fn add_kept_of(&mut self, left: &WordChange, moved: &[WordChange]) -> Result<(), SearchFault> {
         for right in moved {
             if let Some(relation) = kept_between(left, right) {
-                self.relate(&relation)?;
+                self.add_relation(&relation)?;
             }
         }
         Ok(())

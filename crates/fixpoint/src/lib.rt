@@ -3,7 +3,6 @@
 //! it finds is only a guess, which `judge` tests.
 #![tactic(auto)]
 
-mod certificate_form;
 mod certificates;
 mod fault;
 mod incoming_fact;
@@ -11,16 +10,19 @@ mod invariant;
 mod joining;
 mod needs;
 mod of_sums;
+mod outcomes;
 mod program;
 mod ranks;
 mod search;
+mod settings;
 mod sums;
 mod table;
+mod text;
 mod widening;
 mod workspace;
 
 pub use fault::SearchFault;
 pub use of_sums::{Split, SumProgram, SumSearch};
 pub use program::AnalysedProgram;
-pub use search::{Patience, Search};
-pub use widening::{MANY_RUNS, ONE_RUN};
+pub use search::Search;
+pub use settings::{PATIENCES, Patience, SETTINGS, Settings};

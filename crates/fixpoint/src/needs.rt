@@ -3,6 +3,7 @@
 
 use crate::fault::SearchFault;
 use crate::program::AnalysedProgram;
+use crate::settings::SETTINGS;
 use declaration::{Assertion, Subject};
 use instruct::{Format, Operation, refers_indirectly, refers_to_memory, target};
 use processor::is_auto_index;
@@ -10,9 +11,6 @@ use std::alloc::Allocator;
 use std::collections::BTreeMap;
 use word12::Word;
 use wordset::WordSet;
-
-/// How often all words are gone through at most.
-const MOST_ROUNDS: usize = 64;
 
 /// Sets of cells by address; an empty one is not kept.
 type Sets<A> = BTreeMap<usize, WordSet, A>;
@@ -170,7 +168,7 @@ impl<A: Allocator + Copy> Needs<A> {
         &mut self,
         program: &AnalysedProgram<'_, D>,
     ) -> Result<(), SearchFault> {
-        for _round in 0..MOST_ROUNDS {
+        for _round in 0..SETTINGS.most_rounds {
             if !self.add_writes(program)? {
                 return Ok(());
             }
@@ -210,7 +208,7 @@ impl<A: Allocator + Copy> Needs<A> {
         &mut self,
         program: &AnalysedProgram<'_, D>,
     ) -> Result<(), SearchFault> {
-        for _round in 0..MOST_ROUNDS {
+        for _round in 0..SETTINGS.most_rounds {
             if !self.add_cells(program)? {
                 return Ok(());
             }
@@ -289,8 +287,21 @@ impl<A: Allocator + Copy> Needs<A> {
         place: Option<Word>,
     ) -> Result<WordSet, SearchFault> {
         let Some(entry) = place else {
+            for routine in program.declaration.routines() {
+                self.before_call_of(program, at, routine.entry())?;
+            }
             return Ok(program.named);
         };
+        self.before_call_of(program, at, entry)
+    }
+
+    /// The same, where it is known what is called.
+    fn before_call_of<D: Allocator>(
+        &mut self,
+        program: &AnalysedProgram<'_, D>,
+        at: Word,
+        entry: Word,
+    ) -> Result<WordSet, SearchFault> {
         let after = self.after_returns(program, at, entry);
         let written = set_at(&self.writes, entry);
         let returned = with_partners(&after, &after.meet(&written), &self.partners);

@@ -2,7 +2,6 @@
 //! are distinguished.
 
 mod candidates;
-mod certificates;
 mod invariants;
 mod merging;
 mod program;
@@ -10,10 +9,7 @@ mod returning;
 mod search;
 mod splits;
 mod steps;
-mod table;
 mod tested_links;
-mod text;
-mod widening;
 mod workspace;
 
 pub use program::SumProgram;

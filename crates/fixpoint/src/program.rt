@@ -1,25 +1,17 @@
 //! What is analysed: a tape's words and a declaration.
 
 ghost use Rattle.std.specs.Prelude.{◌≡◌};
-ghost use Rattle.fixpoint.specs.Asked.{MayBeAsked};
 
-use crate::fault::SearchFault;
+use crate::settings::SETTINGS;
 use crate::widening::Limits;
 use bin_tape::Image;
-use declaration::{Declaration, Owner, Subject};
+use declaration::{Declaration, Subject};
 use domain::Rules;
 use facts::{Fact, Place};
-use instruct::{
-    Format, Instruction, Operation, decode, halts, refers_indirectly, refers_to_memory, target,
-};
-use processor::is_auto_index;
+use instruct::{Format, Operation, refers_indirectly, refers_to_memory, target};
 use std::alloc::Allocator;
-use transfer::Outcomes;
 use word12::Word;
 use wordset::WordSet;
-
-/// The most cells that are tracked.
-const MOST_TRACKED: usize = 64;
 
 /// What is analysed, the addresses of all bodies, those whose words may look at an entry, the cells that instructions name or
 /// that stand in bodies, those that facts speak of at most, where their sets may end, and the rules by which facts are taken
@@ -36,13 +28,13 @@ pub struct AnalysedProgram<'a, D: Allocator> {
     pub(crate) rules: Rules,
 }
 
-/// A fact at an address of a body, with the sites that are known of the routine whose body it is. It is
-/// large, so the same one serves all visits.
+/// A fact at an address in the body of a routine, if it is not main's, with the sites that are known of this routine. It is large,
+/// so the same one serves all visits.
 #[derive(Drop)]
 pub(crate) struct AbstractState {
     pub(crate) at: Word,
     pub(crate) fact: Fact,
-    pub(crate) body: Owner,
+    pub(crate) routine: Option<Word>,
 }
 
 impl AbstractState {
@@ -51,21 +43,14 @@ impl AbstractState {
         AbstractState {
             at: Word::ZERO,
             fact: Fact::any(),
-            body: Owner::Main,
+            routine: None,
         }
     }
 }
 
-/// Whether a word calls through a pointer that it increments first.
-fn calls_stepped(word: Word, at: Word) -> bool {
-    matches!(Format::of(word), Format::Reference(Operation::Jms))
-        && refers_indirectly(word)
-        && is_auto_index(target(word, at))
-}
-
 /// Adds a cell to the tracked ones, if there is room.
 fn add_cell(cells: &mut WordSet, cell: Word) {
-    if cells.count() < MOST_TRACKED {
+    if cells.count() < SETTINGS.most_tracked {
         cells.insert(cell);
     }
 }
@@ -305,105 +290,26 @@ impl<D: Allocator> AnalysedProgram<'_, D> {
         WordSet::empty()
     }
 
-    /// The owner of an address.
-    pub(crate) fn owner(&self, at: Word) -> Result<Owner, SearchFault> {
-        match self.declaration.owner_of(at) {
-            None => Err(SearchFault::Stuck(at)),
-            Some(owner) => Ok(owner),
+    /// The entry of the routine whose body has an address, if it is not main's.
+    pub fn owner(&self, at: Word) -> Option<Word> {
+        self.declaration.owner_of(at)?.entry()
+    }
+
+    /// Whether an address is in the body of a routine, or of main.
+    pub(crate) fn has(&self, routine: &Option<Word>, at: Word) -> bool {
+        match routine {
+            None => self.declaration.in_main(at),
+            Some(entry) => self.declaration.in_body(*entry, at),
         }
     }
 
     /// Where a fact of a body stands.
-    pub(crate) fn place(&self, body: &Owner) -> Place<'_, D> {
+    pub(crate) fn place(&self, routine: &Option<Word>) -> Place<'_, D> {
         Place {
             image: self.image,
             declaration: self.declaration,
-            routine: body.entry(),
+            routine: *routine,
             rules: self.rules,
-        }
-    }
-
-    /// The words that are possible where a fact stands.
-    pub(crate) fn possible(&self, visit: &AbstractState) -> WordSet {
-        let mut possible = WordSet::empty();
-        self.place(&visit.body)
-            .put_possible(&visit.fact, visit.at, &mut possible);
-        possible
-    }
-
-    /// Whether a word's reads are listed, and it calls through no auto-index cell.
-    pub(crate) fn may_stand(&self, visit: &AbstractState, word: Word) -> bool {
-        if calls_stepped(word, visit.at) {
-            return false;
-        }
-        self.place(&visit.body)
-            .reads_are_listed(&visit.fact, visit.at, word)
-    }
-
-    /// Whether a word, which may write some cells, has a meaning, writes only what it may, and is no HLT where the program may
-    /// not halt. Mostly it writes variables alone.
-    pub(crate) fn may_run(&self, visit: &AbstractState, word: Word, written: &WordSet) -> bool {
-        if !self.may_be_met(visit.at, word) {
-            return false;
-        }
-        if written.is_subset(self.declaration.variables()) {
-            return true;
-        }
-        let place = self.place(&visit.body);
-        place.writes_are_declared(&visit.fact, visit.at, word)
-            && place.entries_are_kept(&visit.fact, visit.at, word)
-    }
-
-    /// Whether a word has a meaning on the machine that is declared, and is no HLT where the program may not halt.
-    fn may_be_met(&self, at: Word, word: Word) -> bool {
-        match decode(word, self.declaration.profile()) {
-            Instruction::Unsupported => false,
-            Instruction::Operate2 => {
-                !halts(word) || self.declaration.is_stop(at) || self.declaration.is_pause(at)
-            }
-            _ => true,
-        }
-    }
-
-    /// The cells that a word may write, except the one that a JMS itself writes.
-    pub(crate) fn written(&self, visit: &AbstractState, word: Word) -> WordSet {
-        let mut cells = WordSet::empty();
-        self.place(&visit.body)
-            .put_writes(&visit.fact, visit.at, word, &mut cells);
-        cells
-    }
-
-    /// Puts what may come of a word into the lent room.
-    #[tactic(auto, using(crate::proofs::AskedLemmas::few_chains, crate::proofs::AskedLemmas::short_chains))]
-    pub(crate) fn put_outcomes(&self, visit: &AbstractState, word: Word, outcomes: &mut Outcomes)
-        requires { MayBeAsked visit.now.fact }
-    {
-        visit.fact.is_within_room();
-        self.place(&visit.body)
-            .put_outcomes(&visit.fact, visit.at, word, outcomes);
-    }
-
-    /// The addresses for which a routine abandons all open calls by a word: where it is not main and the word is a JMP they
-    /// are the declared ones, and else there are none.
-    pub(crate) fn abandoned_by(&self, visit: &AbstractState, word: Word) -> WordSet {
-        let is_jump = Format::of(word) == Format::Reference(Operation::Jmp);
-        match visit.body {
-            Owner::Routine(_) if is_jump => *self.declaration.abandons(),
-            _ => WordSet::empty(),
-        }
-    }
-
-    /// The entry through which a word returns: that of a JMP I through one.
-    pub(crate) fn returned_entry(&self, visit: &AbstractState, word: Word) -> Option<Word> {
-        let is_jump = Format::of(word) == Format::Reference(Operation::Jmp);
-        if !is_jump || !refers_indirectly(word) {
-            return None;
-        }
-        let named = target(word, visit.at);
-        if self.declaration.is_entry(named) {
-            Some(named)
-        } else {
-            None
         }
     }
 }

@@ -1,50 +1,43 @@
 //! Ranks of routines, and calls that go round in a circle.
 
-use crate::certificates::MOST_ROUTINES;
-use crate::table::Candidate;
-use certificate_lines::RoutineClaim;
+use crate::fault::SearchFault;
+use crate::table::Routines;
 use declaration::Declaration;
 use std::alloc::Allocator;
 use word12::Word;
 use wordset::WordSet;
 
+/// The most routines of a certificate, and one more than the greatest rank.
+const MOST_ROUTINES: usize = 64;
+
 /// The greatest rank.
 const LAST_RANK: usize = MOST_ROUTINES - 1;
 
-/// What nothing is known of.
-fn unlisted() -> RoutineClaim {
-    RoutineClaim {
-        rank: 0,
-        sites: WordSet::empty(),
-        writes: WordSet::empty(),
-    }
-}
-
-impl<A: Allocator> Candidate<A> {
-    /// What is claimed of the routine of an entry.
-    pub(crate) fn routine(&self, entry: Word) -> RoutineClaim {
-        match self.row(entry) {
-            None => unlisted(),
-            Some(row) => row.routine,
-        }
-    }
-
+impl<A: Allocator + Copy> Routines<A> {
     /// Ranks all routines. Each round settles those of one rank more; where calls go round in a circle,
     /// the last round leaves the last rank.
-    pub(crate) fn rank_all<D: Allocator>(&mut self, declaration: &Declaration<D>) {
+    pub(crate) fn rank_all<D: Allocator>(
+        &mut self,
+        declaration: &Declaration<D>,
+    ) -> Result<(), SearchFault> {
         for _round in 0..MOST_ROUTINES {
-            self.raise_ranks(declaration);
+            self.raise_ranks(declaration)?;
         }
+        Ok(())
     }
 
     /// Ranks each routine above those that it calls, as far as there are ranks.
-    fn raise_ranks<D: Allocator>(&mut self, declaration: &Declaration<D>) {
+    fn raise_ranks<D: Allocator>(
+        &mut self,
+        declaration: &Declaration<D>,
+    ) -> Result<(), SearchFault> {
         for routine in declaration.routines() {
             let entry = routine.entry();
             let mut claimed = self.routine(entry);
             claimed.rank = self.rank_above(declaration, routine.body()).min(LAST_RANK);
-            self.set_routine(entry, claimed);
+            self.set_routine(entry, claimed)?;
         }
+        Ok(())
     }
 
     /// The least rank above all that a body calls.

@@ -1,185 +1,231 @@
-//! A guess: facts at addresses, and what is claimed of routines.
-
-ghost use Rattle.std.specs.Prelude.{◌≡◌, true, option_map};
-ghost use Rattle.fixpoint.specs.Asked.{MayBeAsked};
-ghost use Rattle.fixpoint.specs.Claimed.{kept_at, row_at, exit_in};
+//! What is known at addresses and at returns, and what is claimed of routines.
 
 use crate::fault::SearchFault;
-use crate::incoming_fact::IncomingFact;
-use crate::invariant::Invariant;
-use crate::widening::{Limits, WideningStrategy};
+use crate::invariant::{Case, Invariant, RelationInvariant};
 use certificate_lines::RoutineClaim;
-use facts::{Fact, KnownFact};
 use std::alloc::Allocator;
 use std::collections::BTreeMap;
+use std::mem::replace;
 use word12::Word;
 use wordset::WordSet;
 
-/// What is claimed of a routine, and what holds at its returns, by offset.
+/// Facts by address, or exits by entry: several where they are distinguished by cases.
 #[derive(Drop)]
-pub(crate) struct Summary<A: Allocator> {
-    pub(crate) routine: RoutineClaim,
-    pub(crate) exits: BTreeMap<usize, Invariant<A>, A>,
+pub(crate) struct InvariantMap<A: Allocator> {
+    rows: BTreeMap<usize, Vec<Invariant<A>, A>, A>,
 }
 
-/// What may show a program safe: facts by address, and by entry routines and exits.
+/// What is claimed of routines, by entry.
 #[derive(Drop)]
-pub(crate) struct Candidate<A: Allocator> {
-    facts: BTreeMap<usize, Invariant<A>, A>,
-    routines: BTreeMap<usize, Summary<A>, A>,
+pub(crate) struct Routines<A: Allocator> {
+    claims: BTreeMap<usize, RoutineClaim, A>,
 }
 
-impl<A: Allocator + Copy> Candidate<A> {
-    /// Nothing is claimed.
-    pub(crate) fn new(alloc: A) -> Candidate<A> {
-        Candidate {
-            facts: BTreeMap::new(alloc),
-            routines: BTreeMap::new(alloc),
-        }
-    }
+/// Facts, exits, what is claimed of routines, and whether the text that says all this was too long to be read.
+#[derive(Drop)]
+pub(crate) struct Table<A: Allocator> {
+    pub(crate) facts: InvariantMap<A>,
+    pub(crate) exits: InvariantMap<A>,
+    pub(crate) routines: Routines<A>,
+    pub(crate) is_long: bool,
+}
 
-    /// Lists the routine of an entry, with nothing known of it, if it is not listed.
-    pub(crate) fn list(&mut self, alloc: A, entry: Word) -> Result<(), SearchFault> {
-        if self.row(entry).is_some() {
-            return Ok(());
-        }
-        let routine = RoutineClaim {
-            rank: 0,
-            sites: WordSet::empty(),
-            writes: WordSet::empty(),
-        };
-        let exits = BTreeMap::new(alloc);
-        let row = Summary { routine, exits };
-        match self.routines.insert(entry.index(), row) {
-            Ok(_) => Ok(()),
-            Err(_) => Err(SearchFault::NoMemory),
-        }
-    }
-
-    /// Keeps a fact at an address.
-    pub(crate) fn keep(&mut self, at: Word, kept: Invariant<A>) -> Result<(), SearchFault> {
-        match self.facts.insert(at.index(), kept) {
-            Ok(_) => Ok(()),
-            Err(_) => Err(SearchFault::NoMemory),
-        }
-    }
-
-    /// Keeps what holds at a return of a routine, if it is listed.
-    pub(crate) fn keep_exit(
-        &mut self,
-        entry: Word,
-        offset: usize,
-        kept: Invariant<A>,
-    ) -> Result<(), SearchFault> {
-        let Some(row) = self.routines.get_mut(&entry.index()) else {
-            return Ok(());
-        };
-        match row.exits.insert(offset, kept) {
-            Ok(_) => Ok(()),
-            Err(_) => Err(SearchFault::NoMemory),
+impl<A: Allocator + Copy> Table<A> {
+    /// Nothing is known.
+    pub(crate) fn new(alloc: A) -> Table<A> {
+        Table {
+            facts: InvariantMap::new(alloc),
+            exits: InvariantMap::new(alloc),
+            routines: Routines {
+                claims: BTreeMap::new(alloc),
+            },
+            is_long: false,
         }
     }
 }
 
-impl<A: Allocator + Copy> Candidate<A> {
-    /// Joins what is known to the fact at an address, if there is one, and returns whether less is
-    /// said than before.
-    pub(crate) fn join<F: KnownFact>(
+impl<A: Allocator> Table<A> {
+    /// Forgets all facts and exits.
+    pub(crate) fn forget_facts(&mut self) {
+        self.facts.rows.clear();
+        self.exits.rows.clear();
+    }
+
+    /// Forgets all.
+    pub(crate) fn forget(&mut self) {
+        self.forget_facts();
+        self.routines.forget();
+    }
+}
+
+impl<A: Allocator + Copy> InvariantMap<A> {
+    /// Nothing is kept.
+    fn new(alloc: A) -> InvariantMap<A> {
+        InvariantMap {
+            rows: BTreeMap::new(alloc),
+        }
+    }
+
+    /// Keeps one more at an address.
+    pub(crate) fn keep(
         &mut self,
         alloc: A,
         at: Word,
-        known: &IncomingFact<'_, F>,
-        limits: &Limits,
-        pace: WideningStrategy,
-    ) -> Result<bool, SearchFault> {
-        if let Some(kept) = self.facts.get_mut(&at.index()) {
-            return kept.join(alloc, known, limits, pace);
+        kept: Invariant<A>,
+    ) -> Result<(), SearchFault> {
+        if let Some(row) = self.rows.get_mut(&at.index()) {
+            return match row.push(kept) {
+                Ok(()) => Ok(()),
+                Err(_) => Err(SearchFault::NoMemory),
+            };
         }
-        Ok(false)
-    }
-
-    /// Joins what is known to what holds at a return, if something is kept of it, and returns
-    /// whether less is said than before.
-    pub(crate) fn join_exit<F: KnownFact>(
-        &mut self,
-        alloc: A,
-        entry: Word,
-        offset: usize,
-        known: &IncomingFact<'_, F>,
-        limits: &Limits,
-        pace: WideningStrategy,
-    ) -> Result<bool, SearchFault> {
-        if let Some(row) = self.routines.get_mut(&entry.index()) {
-            if let Some(kept) = row.exits.get_mut(&offset) {
-                return kept.join(alloc, known, limits, pace);
-            }
+        let mut row = Vec::new(alloc);
+        let Ok(()) = row.push(kept) else {
+            return Err(SearchFault::NoMemory);
+        };
+        match self.rows.insert(at.index(), row) {
+            Ok(_) => Ok(()),
+            Err(_) => Err(SearchFault::NoMemory),
         }
-        Ok(false)
     }
 }
 
-impl<A: Allocator> Candidate<A> {
-    /// What is kept at an address.
-    pub(crate) fn kept(&self, at: Word) -> Option<&Invariant<A>>
-        ensures { option_map (λ k. k.now) result ≡ kept_at self.now at }
-    {
-        self.facts.get(&at.index())
+impl<A: Allocator> InvariantMap<A> {
+    /// All that is kept at an address.
+    pub(crate) fn row(&self, at: Word) -> &[Invariant<A>] {
+        match self.rows.get(&at.index()) {
+            None => &[],
+            Some(row) => row.as_slice(),
+        }
     }
 
-    /// What is kept of the routine of an entry.
-    pub(crate) fn row(&self, entry: Word) -> Option<&Summary<A>>
-        ensures { option_map (λ r. r.now) result ≡ row_at self.now entry }
-    {
-        self.routines.get(&entry.index())
+    /// What is kept at an address at a place.
+    pub(crate) fn get(&self, at: Word, index: usize) -> Option<&Invariant<A>> {
+        self.row(at).get(index)
     }
 
-    /// What is kept of a return.
-    pub(crate) fn kept_exit(&self, entry: Word, offset: usize) -> Option<&Invariant<A>>
-        ensures { option_map (λ k. k.now) result ≡ exit_in (row_at self.now entry) offset }
-    {
-        match self.row(entry) {
+    /// What is kept at an address in a case.
+    pub(crate) fn find(&self, at: Word, case: &Case) -> Option<&Invariant<A>> {
+        for kept in self.row(at) {
+            if kept.case == *case {
+                return Some(kept);
+            }
+        }
+        None
+    }
+
+    /// The relations of what is kept at an address in a case.
+    pub(crate) fn relations_in(&self, at: Word, case: &Case) -> &[RelationInvariant] {
+        match self.find(at, case) {
+            None => &[],
+            Some(kept) => kept.relations.as_slice(),
+        }
+    }
+
+    /// The place of what is kept at an address in a case.
+    fn place_of(&self, at: Word, case: &Case) -> Option<usize> {
+        let mut index = 0usize;
+        for kept in self.row(at) {
+            if kept.case == *case {
+                return Some(index);
+            }
+            index = index.saturating_add(1);
+        }
+        None
+    }
+
+    /// What is kept at an address in a case, to be changed.
+    pub(crate) fn find_mut(&mut self, at: Word, case: &Case) -> Option<&mut Invariant<A>> {
+        let index = self.place_of(at, case)?;
+        match self.rows.get_mut(&at.index()) {
             None => None,
-            Some(row) => row.exits.get(&offset),
+            Some(row) => row.get_mut(index),
         }
     }
 
-    /// Whether there is a fact at an address, which the lent one then says.
-    pub(crate) fn fact_into(&self, at: Word, fact: &mut Fact) -> bool
-        ensures { result ≡ true → MayBeAsked fact.new }
-    {
-        match self.kept(at) {
-            None => false,
-            Some(kept) => kept.fact_into(fact),
+    /// Whether something at an address waits at a place; it does not wait any more then.
+    pub(crate) fn take_waiting(&mut self, at: Word, index: usize) -> bool {
+        let Some(row) = self.rows.get_mut(&at.index()) else {
+            return false;
+        };
+        let Some(kept) = row.get_mut(index) else {
+            return false;
+        };
+        replace(&mut kept.waits, false)
+    }
+
+    /// All that is kept at an address waits.
+    pub(crate) fn mark_waiting(&mut self, at: Word) {
+        if let Some(row) = self.rows.get_mut(&at.index()) {
+            for kept in row.as_mut_slice() {
+                kept.waits = true;
+            }
         }
     }
 
-    /// Whether there is a fact at an address.
-    pub(crate) fn has(&self, at: Word) -> bool {
-        self.kept(at).is_some()
+    /// The addresses at which something is kept.
+    pub(crate) fn addresses(&self) -> WordSet {
+        let mut found = WordSet::empty();
+        for index in 0..4096usize {
+            if self.rows.get(&index).is_some() {
+                found.insert(Word::from_index(index));
+            }
+        }
+        found
     }
+}
 
-    /// Whether something is kept of a return.
-    pub(crate) fn has_exit(&self, entry: Word, offset: usize) -> bool {
-        self.kept_exit(entry, offset).is_some()
+/// What is claimed of a routine of which nothing is known.
+fn unclaimed() -> RoutineClaim {
+    RoutineClaim {
+        rank: 0,
+        sites: WordSet::empty(),
+        writes: WordSet::empty(),
     }
+}
 
-    /// Claims something else of a routine.
-    pub(crate) fn set_routine(&mut self, entry: Word, routine: RoutineClaim) {
-        if let Some(row) = self.routines.get_mut(&entry.index()) {
-            row.routine = routine;
+impl<A: Allocator> Routines<A> {
+    /// What is claimed of the routine of an entry.
+    pub(crate) fn routine(&self, entry: Word) -> RoutineClaim {
+        match self.claims.get(&entry.index()) {
+            None => unclaimed(),
+            Some(routine) => *routine,
         }
     }
 
     /// Forgets all that is claimed of routines.
-    pub(crate) fn forget_routines(&mut self) {
-        self.routines.clear();
+    pub(crate) fn forget(&mut self) {
+        self.claims.clear();
+    }
+}
+
+impl<A: Allocator + Copy> Routines<A> {
+    /// Claims something else of the routine of an entry.
+    pub(crate) fn set_routine(
+        &mut self,
+        entry: Word,
+        routine: RoutineClaim,
+    ) -> Result<(), SearchFault> {
+        match self.claims.insert(entry.index(), routine) {
+            Ok(_) => Ok(()),
+            Err(_) => Err(SearchFault::NoMemory),
+        }
     }
 
-    /// Forgets all facts and exits.
-    pub(crate) fn forget(&mut self) {
-        self.facts.clear();
-        for row in self.routines.values_mut() {
-            row.exits.clear();
+    /// Claims more of a routine, and tells whether it is more.
+    pub(crate) fn claim(
+        &mut self,
+        entry: Word,
+        sites: &WordSet,
+        writes: &WordSet,
+    ) -> Result<bool, SearchFault> {
+        let mut routine = self.routine(entry);
+        if sites.is_subset(&routine.sites) && writes.is_subset(&routine.writes) {
+            return Ok(false);
         }
+        routine.sites = routine.sites.union(sites);
+        routine.writes = routine.writes.union(writes);
+        self.set_routine(entry, routine)?;
+        Ok(true)
     }
 }

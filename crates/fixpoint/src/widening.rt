@@ -1,50 +1,8 @@
-//! How sets that go on growing are made ones that do not.
+//! How sets that go on growing are made ones that do not: on to the next words at which sets may end.
 
+use crate::settings::Pace;
 use word12::Word;
 use wordset::WordSet;
-
-/// Off the ways back, a set may grow so often at one address before nothing is said of it any more.
-const MOST_GROWTHS: u32 = 300;
-
-/// In the first search it may grow so often.
-const SOON_GROWTHS: u32 = 8;
-
-/// A count up to 7777 may grow so often before it is taken to start anywhere below.
-const COUNT_GROWTHS: u32 = 40;
-
-/// In the first search such a count may grow so often before that.
-const SOON_COUNT_GROWTHS: u32 = 5;
-
-/// On the way back a set may grow so often before it goes on to the next landmarks,
-const QUICK_GROWTHS: u32 = 8;
-
-/// and so often before nothing is said of it any more;
-const LANDMARK_GROWTHS: u32 = 20;
-
-/// in the first search so often before the landmarks,
-const SOON_QUICK_GROWTHS: u32 = 4;
-
-/// and so often before nothing is said.
-const SOON_LANDMARK_GROWTHS: u32 = 10;
-
-/// A set in more runs is filled.
-pub const MANY_RUNS: usize = 48;
-
-/// In a search for what takes fewer bytes every set in several runs is filled.
-pub const ONE_RUN: usize = 1;
-
-/// How soon sets are widened.
-#[derive(Clone, Copy)]
-pub(crate) enum WideningStrategy {
-    /// After few growths, on to the next landmarks.
-    SoonBack,
-    /// After few growths, to all words.
-    Soon,
-    /// After some growths, on to the next landmarks.
-    Quick,
-    /// After hundreds of growths.
-    Patient,
-}
 
 /// The cells that ISZ counts by name, words at which sets may end (the program's constants, and
 /// the ends of what may be written and read), and how many runs a set may have.
@@ -64,6 +22,29 @@ impl Limits {
         } else {
             *set
         }
+    }
+
+    /// A set that grew out of another so often in the first search.
+    pub(crate) fn widened(
+        &self,
+        pace: &Pace,
+        old: &WordSet,
+        set: &WordSet,
+        growths: u32,
+        counted: bool,
+    ) -> WordSet {
+        let smooth = self.with_few_runs(set);
+        let is_count = counted && growths >= pace.count && growths < pace.end_of_count;
+        if is_count && is_negative(&smooth) {
+            return up_to_the_end(&smooth);
+        }
+        if growths >= pace.all {
+            return WordSet::all();
+        }
+        if growths >= pace.landmarks {
+            return to_landmarks(old, &smooth, &self.landmarks);
+        }
+        smooth
     }
 }
 
@@ -91,20 +72,19 @@ fn is_negative(set: &WordSet) -> bool {
     set.least().is_some_and(|low| low.is_negative())
 }
 
-/// From the last landmark that is not above a word.
-fn landmark_below(landmarks: &WordSet, word: Word) -> Word {
-    match landmarks.meet(&WordSet::range(Word::ZERO, word)).greatest() {
-        None => Word::ZERO,
-        Some(low) => low,
+/// The least boundary from a word on, or 7777.
+fn boundary_from(boundaries: &WordSet, word: Word) -> Word {
+    match boundaries.first_from(word.index()) {
+        None => Word::ZERO.complement(),
+        Some(found) => found,
     }
 }
 
-/// To the first landmark that is not below a word.
-fn landmark_above(landmarks: &WordSet, word: Word) -> Word {
-    match landmarks.first_from(word.index()) {
-        None => Word::ZERO.complement(),
-        Some(high) => high,
-    }
+/// The greatest boundary up to a word, if there is one.
+fn boundary_up_to(boundaries: &WordSet, word: Word) -> Option<Word> {
+    boundaries
+        .meet(&WordSet::range(Word::ZERO, word))
+        .greatest()
 }
 
 /// A set that grew out of another, on to the next landmarks where it grew.
@@ -118,93 +98,85 @@ fn to_landmarks(old: &WordSet, set: &WordSet, landmarks: &WordSet) -> WordSet {
     let from = if old.least() == Some(low) {
         low
     } else {
-        landmark_below(landmarks, low)
+        boundary_up_to(landmarks, low).unwrap_or(Word::ZERO)
     };
     let to = if old.greatest() == Some(high) {
         high
     } else {
-        landmark_above(landmarks, high)
+        boundary_from(landmarks, high)
     };
     WordSet::range(from, to)
 }
 
-/// How often a set may grow on the way back before it goes on to the next landmarks, and before nothing
-/// is said of it any more.
-#[derive(Clone, Copy)]
-struct GrowthLimits {
-    first: u32,
-    last: u32,
-}
-
-/// A set that grew on the way back.
-fn quickly(
-    old: &WordSet,
-    set: &WordSet,
-    growths: u32,
-    counted: bool,
-    limits: &Limits,
-    steps: GrowthLimits,
-) -> WordSet {
-    let smooth = limits.with_few_runs(set);
-    if growths < steps.first {
-        return smooth;
-    }
-    if counted && is_negative(&smooth) {
-        return up_to_the_end(&smooth);
-    }
-    if growths >= steps.last {
-        return WordSet::all();
-    }
-    to_landmarks(old, &smooth, &limits.landmarks)
-}
-
-/// A set that grew, widened only after hundreds of growths.
-fn patiently(set: &WordSet, growths: u32, counted: bool, limits: &Limits) -> WordSet {
-    if growths >= MOST_GROWTHS {
-        return WordSet::all();
-    }
-    if counted && growths >= COUNT_GROWTHS && is_negative(set) {
-        return up_to_the_end(set);
-    }
-    limits.with_few_runs(set)
-}
-
-/// A set that grew, widened after few growths.
-fn soon(set: &WordSet, growths: u32, counted: bool, limits: &Limits) -> WordSet {
-    if growths >= SOON_GROWTHS {
-        return WordSet::all();
-    }
-    if counted && growths >= SOON_COUNT_GROWTHS && is_negative(set) {
-        return up_to_the_end(set);
-    }
-    limits.with_few_runs(set)
-}
-
-/// A set that grew out of another so often.
-pub(crate) fn widened(
-    old: &WordSet,
-    set: &WordSet,
-    growths: u32,
-    counted: bool,
-    limits: &Limits,
-    pace: WideningStrategy,
-) -> WordSet {
-    match pace {
-        WideningStrategy::Patient => patiently(set, growths, counted, limits),
-        WideningStrategy::Soon => soon(set, growths, counted, limits),
-        WideningStrategy::Quick => {
-            let steps = GrowthLimits {
-                first: QUICK_GROWTHS,
-                last: LANDMARK_GROWTHS,
-            };
-            quickly(old, set, growths, counted, limits, steps)
+/// By how much a set is turned so that it begins behind its longest gap: the first word there.
+fn behind_longest_gap(set: &WordSet) -> Word {
+    let Some(first) = set.least() else {
+        return Word::ZERO;
+    };
+    let Some(last) = set.greatest() else {
+        return Word::ZERO;
+    };
+    let mut longest = first.index() + 4096 - last.index();
+    let mut start = first;
+    let mut before = last;
+    for (low, high) in set.ranges() {
+        if low.index() > before.index() {
+            let gap = low.index() - before.index();
+            if gap > longest {
+                longest = gap;
+                start = low;
+            }
         }
-        WideningStrategy::SoonBack => {
-            let steps = GrowthLimits {
-                first: SOON_QUICK_GROWTHS,
-                last: SOON_LANDMARK_GROWTHS,
-            };
-            quickly(old, set, growths, counted, limits, steps)
-        }
+        before = high;
     }
+    start
+}
+
+/// The words above a word.
+fn above(word: Word) -> WordSet {
+    WordSet::all().minus(&WordSet::range(Word::ZERO, word))
+}
+
+/// The words of a set from a word on.
+fn from_on(set: &WordSet, word: Word) -> WordSet {
+    set.meet(&WordSet::range(word, Word::from_index(0o7777)))
+}
+
+/// A set that grew out of one that begins with 0 and ends with a word: what is new before the longest gap went on upwards, and
+/// what is new after it came from above.
+fn beyond(top: Word, grown: &WordSet, new: &WordSet, thresholds: &WordSet) -> WordSet {
+    let start = behind_longest_gap(grown);
+    let down = if start > top {
+        from_on(new, start)
+    } else {
+        WordSet::empty()
+    };
+    let mut set = *grown;
+    if let Some(last) = new.minus(&down).greatest() {
+        set.insert_range(top, boundary_from(thresholds, last));
+    }
+    if let Some(first) = down.least() {
+        let from = boundary_up_to(&thresholds.meet(&above(top)), first).unwrap_or(first);
+        set.insert_range(from, Word::from_index(0o7777));
+    }
+    set
+}
+
+/// A set that grew out of another, on to the next thresholds where it grew, counted from the start of the longest gap, so that a
+/// count of negative numbers ends at 0.
+pub(crate) fn to_thresholds(old: &WordSet, grown: &WordSet, thresholds: &WordSet) -> WordSet {
+    let start = behind_longest_gap(old);
+    let back = start.complement().increment();
+    let turned = old.shift(back);
+    let more = grown.shift(back);
+    let Some(top) = turned.greatest() else {
+        return *grown;
+    };
+    let new = more.minus(&turned).meet(&above(top));
+    let wide = if new.is_empty() {
+        more.union(&WordSet::range(Word::ZERO, top))
+    } else {
+        beyond(top, &more, &new, &thresholds.shift(back))
+    };
+    wide.shift(start)
 }

@@ -2,19 +2,14 @@
 //! several words as the other goes by one.
 
 use crate::fault::SearchFault;
-use crate::of_sums::invariants::SumInvariant;
+use crate::invariant::Invariant;
 use crate::of_sums::merging::{Merge, Sides};
+use crate::settings::SETTINGS;
 use domain::{Location, Sum, Summand, Term, negated, product, spelled};
 use facts::{Fact, KnownFact};
 use std::alloc::Allocator;
 use word12::Word;
 use wordset::WordSet;
-
-/// If more cells changed, only pointers and counters are looked at.
-const MOST_CHANGED: usize = 10;
-
-/// The greatest factor.
-const MOST_FACTOR: usize = 64;
 
 /// Of which words a cell went to which.
 #[derive(Clone, Copy)]
@@ -65,8 +60,8 @@ impl Change {
 
 /// Whether a word is a small number of either sign, other than -1, 0 and 1.
 fn is_factor(word: Word) -> bool {
-    let index = word.index();
-    index > 1 && index <= MOST_FACTOR || index >= 4096 - MOST_FACTOR && index < 4095
+    let size = word.index().min(negated(word).index());
+    size > 1 && size <= SETTINGS.most_factor
 }
 
 /// The sum of a cell and so many times another.
@@ -105,7 +100,7 @@ fn factor(fast: Option<Word>, slow: Option<Word>) -> Option<Word> {
 
 /// Adds what is said of the difference and of the sum of two cells that changed.
 fn add_pair<A: Allocator + Copy, F: KnownFact>(
-    kept: &mut SumInvariant<A>,
+    kept: &mut Invariant<A>,
     left: &Change,
     right: &Change,
     known: &F,
@@ -124,7 +119,7 @@ fn add_pair<A: Allocator + Copy, F: KnownFact>(
 
 /// Adds what is said of one cell and a multiple of another, where the one went by several words as the other went by one.
 fn add_factors<A: Allocator + Copy, F: KnownFact>(
-    kept: &mut SumInvariant<A>,
+    kept: &mut Invariant<A>,
     fast: &Change,
     slow: &Change,
     known: &F,
@@ -143,7 +138,7 @@ fn add_factors<A: Allocator + Copy, F: KnownFact>(
 
 /// Adds what is said of one cell that changed and of others that did.
 fn add_pairs_of<A: Allocator + Copy, F: KnownFact>(
-    kept: &mut SumInvariant<A>,
+    kept: &mut Invariant<A>,
     cell: Word,
     others: &WordSet,
     known: &F,
@@ -164,13 +159,13 @@ fn add_pairs_of<A: Allocator + Copy, F: KnownFact>(
 
 /// Adds what is said of pairs of cells that changed.
 pub(crate) fn add_pairs<A: Allocator + Copy, F: KnownFact>(
-    kept: &mut SumInvariant<A>,
+    kept: &mut Invariant<A>,
     changed: &WordSet,
     known: &F,
     merge: &Merge<'_, A>,
     sides: &mut Sides<'_>,
 ) -> Result<(), SearchFault> {
-    let chosen = if changed.count() <= MOST_CHANGED {
+    let chosen = if changed.count() <= SETTINGS.most_changed {
         *changed
     } else {
         changed.meet(&merge.pointers.union(&merge.limits.counted))

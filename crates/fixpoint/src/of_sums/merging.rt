@@ -2,21 +2,20 @@
 
 use crate::fault::SearchFault;
 use crate::incoming_fact::brief;
-use crate::invariant::CellInvariant;
+use crate::invariant::{Case, CellInvariant, Invariant, RelationInvariant};
+use crate::joining::joined_offsets;
 use crate::of_sums::candidates::add_pairs;
-use crate::of_sums::invariants::{RelationInvariant, SumInvariant};
-use crate::of_sums::widening::{COUNTED_DELAY, NAME_DELAY, SUM_DELAY, to_thresholds};
+use crate::settings::SETTINGS;
 use crate::sums::speaks_only_of;
-use crate::widening::Limits;
+use crate::table::InvariantMap;
+use crate::widening::{Limits, to_thresholds};
 use bin_tape::Image;
-use domain::{Chain, Location, ReturnOffsets, Sum, Summand};
+use domain::{Chain, Location, Sum, Summand};
 use facts::{AllowedValues, Fact, KnownFact};
 use std::alloc::Allocator;
 use std::mem::replace;
+use word12::Word;
 use wordset::WordSet;
-
-/// The most words of a cell that are tried to see whether a chain is true of them.
-const MOST_TRIED: usize = 64;
 
 /// How facts are joined: the allocator, the tape's words, the cells that they speak of, the pointers among these, how sets are
 /// filled and widened, and whether they are widened at all.
@@ -55,25 +54,18 @@ impl<A: Allocator + Copy> Merge<'_, A> {
 
     /// A set of a name that grew out of another so often.
     fn widened(&self, old: &WordSet, grown: &WordSet, growths: u32, counted: bool) -> WordSet {
-        let delay = if counted { COUNTED_DELAY } else { NAME_DELAY };
+        let delay = if counted {
+            SETTINGS.counted_delay
+        } else {
+            SETTINGS.name_delay
+        };
         self.widened_after(delay, old, grown, growths)
     }
 
     /// A set of a sum that grew out of another so often.
     fn widened_sum(&self, old: &WordSet, grown: &WordSet, growths: u32) -> WordSet {
-        self.widened_after(SUM_DELAY, old, grown, growths)
+        self.widened_after(SETTINGS.sum_delay, old, grown, growths)
     }
-}
-
-/// The offsets of both.
-fn joined_offsets(a: ReturnOffsets, b: ReturnOffsets) -> ReturnOffsets {
-    let mut offsets = a;
-    for offset in 0..64usize {
-        if b.contains(offset) {
-            offsets.insert(offset);
-        }
-    }
-    offsets
 }
 
 /// Whether two chains are one.
@@ -90,7 +82,7 @@ fn shows<F: KnownFact>(known: &F, chain: &Chain) -> bool {
     }
     let mut cells = WordSet::all();
     known.put_set_of(&Location::Cell(chain.cell()), &mut cells);
-    if cells.count() > MOST_TRIED {
+    if cells.count() > SETTINGS.most_tried_words {
         return false;
     }
     let allowed = AllowedValues {
@@ -160,10 +152,63 @@ fn grow<A: Allocator + Copy, F: KnownFact>(
     true
 }
 
-impl<A: Allocator + Copy> SumInvariant<A> {
+impl<A: Allocator + Copy> InvariantMap<A> {
+    /// Lets something be known at an address in a case, or by an exit of an entry, of which it is told where it holds. Tells
+    /// whether less is said there than before, or something for the first time. Where there are many facts, no more are
+    /// distinguished by words.
+    pub(crate) fn reach<F: KnownFact>(
+        &mut self,
+        key: Word,
+        at: Word,
+        case: &Case,
+        known: &F,
+        wanted: &[RelationInvariant],
+        merge: &Merge<'_, A>,
+        before: &mut Fact,
+        after: &mut Fact,
+    ) -> Result<bool, SearchFault> {
+        let is_new = self.find(key, case).is_none();
+        let mut case = *case;
+        if is_new && self.row(key).len() >= SETTINGS.most_facts {
+            case = case.without_words();
+        }
+        if let Some(kept) = self.find_mut(key, &case) {
+            return kept.reach(known, wanted, merge, before, after);
+        }
+        let kept = Invariant::of(at, case, known, merge, after)?;
+        self.keep(merge.alloc, key, kept)?;
+        Ok(true)
+    }
+}
+
+impl<A: Allocator + Copy> Invariant<A> {
+    /// Joins what is known, unless all that is kept is known; it then waits. Tells whether less is said than before. What was
+    /// joined very often is given up.
+    fn reach<F: KnownFact>(
+        &mut self,
+        known: &F,
+        wanted: &[RelationInvariant],
+        merge: &Merge<'_, A>,
+        before: &mut Fact,
+        after: &mut Fact,
+    ) -> Result<bool, SearchFault> {
+        if self.covers(known, merge) {
+            return Ok(false);
+        }
+        if self.joins >= SETTINGS.most_joins {
+            return Err(SearchFault::Stuck(self.at));
+        }
+        self.joins = self.joins.saturating_add(1);
+        self.put(before);
+        let mut sides = Sides { before, after };
+        self.join(known, wanted, merge, &mut sides)?;
+        self.waits = true;
+        Ok(true)
+    }
+
     /// Joins something else that is known: what both say is left. The first of the lent rooms has what is kept. Relations may
     /// be given whose sums are wanted too.
-    pub(crate) fn join<F: KnownFact>(
+    fn join<F: KnownFact>(
         &mut self,
         known: &F,
         wanted: &[RelationInvariant],
@@ -189,7 +234,7 @@ impl<A: Allocator + Copy> SumInvariant<A> {
     }
 
     /// Whether all that is kept is known: nothing is to be joined.
-    pub(crate) fn covers<F: KnownFact>(&self, known: &F, merge: &Merge<'_, A>) -> bool {
+    fn covers<F: KnownFact>(&self, known: &F, merge: &Merge<'_, A>) -> bool {
         self.covers_registers(known)
             && self.covers_cells(known)
             && self.covers_relations(known, merge)

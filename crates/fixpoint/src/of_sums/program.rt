@@ -1,15 +1,13 @@
 //! A program as the search by the rules of sums sees it.
 
-ghost use Rattle.std.specs.Prelude.{ℕ, ◌≡◌, true, IfSome, Some};
-ghost use Rattle.wordset.specs.Words.{difference};
-ghost use Rattle.wordset.specs.Lanes.{words};
-ghost use Rattle.declaration.specs.DeclarationInCode.{meaning};
+ghost use Rattle.std.specs.Prelude.{◌≡◌};
 
 use crate::of_sums::tested_links::tested_links;
 use crate::program::{AnalysedProgram, add_asserted};
-use crate::widening::{Limits, MANY_RUNS};
+use crate::settings::SETTINGS;
+use crate::widening::Limits;
 use bin_tape::Image;
-use declaration::{Declaration, Owner};
+use declaration::Declaration;
 use domain::Rules;
 use facts::{Place, SumFact};
 use instruct::{Format, Operation, refers_indirectly, refers_to_memory, target};
@@ -17,9 +15,6 @@ use processor::is_auto_index;
 use std::alloc::Allocator;
 use word12::Word;
 use wordset::WordSet;
-
-/// The most cells that are told of everywhere since pointers that never change lead to them.
-const MOST_REACHED: usize = 16;
 
 /// A program, the variables that it uses as pointers, those that it tests, those of which something is declared to hold, those to
 /// which pointers lead that never change, the routines that look at their return word, the addresses from which the link may be
@@ -60,18 +55,6 @@ fn looks_at(word: Word) -> bool {
     }
 }
 
-/// The entry of the routine whose body has an address, if it is not main's.
-fn entry_at<D: Allocator>(declaration: &Declaration<D>, at: Word) -> Option<Word>
-    ensures found { IfSome result (λ entry. (meaning declaration.now).body (Some entry) at ≡ true) }
-    ensures only { (entry : ℕ) → (meaning declaration.now).body (Some entry) at ≡ true →
-        result ≡ Some entry }
-{
-    match declaration.owner_of(at)? {
-        Owner::Main => None,
-        Owner::Routine(entry) => Some(entry),
-    }
-}
-
 /// What the instructions of a program do with cells: the variables that are pointers, those that are tested, those to which
 /// pointers lead that never change, and the entries of the routines that look at their return word.
 #[derive(Clone, Copy)]
@@ -94,7 +77,7 @@ fn uses_of<D: Allocator>(base: &AnalysedProgram<'_, D>) -> Uses {
         let at = Word::from_index(index);
         if let Some(word) = base.fixed_word(at) {
             if refers_to_memory(word) {
-                uses.add(base.declaration, at, word);
+                uses.add(base, at, word);
                 uses.add_reached(base, at, word);
             }
         }
@@ -104,9 +87,9 @@ fn uses_of<D: Allocator>(base: &AnalysedProgram<'_, D>) -> Uses {
 
 impl Uses {
     /// Adds what a memory reference does.
-    fn add<D: Allocator>(&mut self, declaration: &Declaration<D>, at: Word, word: Word) {
+    fn add<D: Allocator>(&mut self, base: &AnalysedProgram<'_, D>, at: Word, word: Word) {
         let named = target(word, at);
-        if declaration.is_variable(named) {
+        if base.declaration.is_variable(named) {
             if refers_indirectly(word) {
                 self.pointers.insert(named);
             }
@@ -116,7 +99,7 @@ impl Uses {
                 }
             }
         }
-        if entry_at(declaration, at) == Some(named) && looks_at(word) {
+        if base.owner(at) == Some(named) && looks_at(word) {
             self.readers.insert(named);
         }
     }
@@ -127,7 +110,7 @@ impl Uses {
             return;
         }
         if let Some(cell) = base.place_named(word, target(word, at)) {
-            if base.declaration.is_variable(cell) && self.reached.count() < MOST_REACHED {
+            if base.declaration.is_variable(cell) && self.reached.count() < SETTINGS.most_reached {
                 self.reached.insert(cell);
             }
         }
@@ -140,7 +123,7 @@ impl<'a, D: Allocator> SumProgram<'a, D> {
         ensures image { result.base.image.now ≡ image.now }
         ensures declaration { result.base.declaration.now ≡ declaration.now }
     {
-        let base = AnalysedProgram::of(image, declaration, MANY_RUNS);
+        let base = AnalysedProgram::of(image, declaration, SETTINGS.most_runs);
         let thresholds = thresholds(&base.limits);
         let mut asserted = WordSet::empty();
         add_asserted(&mut asserted, declaration);
@@ -160,25 +143,6 @@ impl<'a, D: Allocator> SumProgram<'a, D> {
             readers,
             tested_links,
             thresholds,
-        }
-    }
-
-    /// The entry of the routine whose body has an address, if it is not main's.
-    pub fn owner(&self, at: Word) -> Option<Word>
-        ensures found { IfSome result (λ entry.
-            (meaning self.now.base.declaration.now).body (Some entry) at ≡ true) }
-        ensures only { (entry : ℕ) →
-            (meaning self.now.base.declaration.now).body (Some entry) at ≡ true →
-            result ≡ Some entry }
-    {
-        entry_at(self.base.declaration, at)
-    }
-
-    /// Whether an address is in the body of a routine, or of main.
-    pub(crate) fn has(&self, routine: &Option<Word>, at: Word) -> bool {
-        match routine {
-            None => self.base.declaration.in_main(at),
-            Some(entry) => self.base.declaration.in_body(*entry, at),
         }
     }
 
@@ -223,6 +187,17 @@ impl<'a, D: Allocator> SumProgram<'a, D> {
         last
     }
 
+    /// The entries of the routines with several returns.
+    pub fn skipping(&self) -> WordSet {
+        let mut found = WordSet::empty();
+        for routine in self.base.declaration.routines() {
+            if self.last_offset(routine.entry()).unwrap_or(0) > 0 {
+                found.insert(routine.entry());
+            }
+        }
+        found
+    }
+
     /// The entry that the word at an address calls, if it calls one.
     fn entry_called_at(&self, at: Word) -> Option<Word> {
         let word = self.base.fixed_word(at)?;
@@ -237,7 +212,7 @@ impl<'a, D: Allocator> SumProgram<'a, D> {
         let mut found = WordSet::empty();
         for index in 0..4096usize {
             let at = Word::from_index(index);
-            if self.has(routine, at) {
+            if self.base.has(routine, at) {
                 if let Some(entry) = self.entry_called_at(at) {
                     found.insert(entry);
                 }
@@ -247,24 +222,18 @@ impl<'a, D: Allocator> SumProgram<'a, D> {
     }
 
     /// The routines that look at their return word.
-    pub fn readers(&self) -> &WordSet
-        ensures { result.now ≡ self.now.readers }
-    {
+    pub fn readers(&self) -> &WordSet {
         &self.readers
     }
 
     /// The addresses from which a run may come to a skip that tests the link, and the entries of the routines after whose return
     /// it may.
-    pub fn tested_links(&self) -> &WordSet
-        ensures { result.now ≡ self.now.tested_links }
-    {
+    pub fn tested_links(&self) -> &WordSet {
         &self.tested_links
     }
 
     /// The variables that are added, masked or counted by name, except for pointers.
-    pub fn tested(&self) -> WordSet
-        ensures { words result ≡ difference (words self.now.tested) (words self.now.pointers) }
-    {
+    pub fn tested(&self) -> WordSet {
         self.tested.minus(&self.pointers)
     }
 

@@ -1,9 +1,9 @@
 //! Calls and returns.
 
 use crate::fault::SearchFault;
+use crate::invariant::Case;
 use crate::of_sums::program::SumProgram;
 use crate::of_sums::search::SumSearch;
-use crate::of_sums::splits::Case;
 use crate::of_sums::steps::MergeTarget;
 use crate::of_sums::workspace::SumWorkspace;
 use certificate_lines::RoutineClaim;
@@ -28,11 +28,10 @@ impl<A: Allocator + Copy> SumSearch<A> {
         sites: &WordSet,
         writes: &WordSet,
     ) -> Result<bool, SearchFault> {
-        let alloc = self.alloc;
         if self.gathers() {
-            self.gathered.claim(alloc, entry, sites, writes)
+            self.gathered.routines.claim(entry, sites, writes)
         } else {
-            self.table.claim(alloc, entry, sites, writes)
+            self.table.routines.claim(entry, sites, writes)
         }
     }
 
@@ -143,7 +142,7 @@ impl<A: Allocator + Copy> SumSearch<A> {
             return Ok(());
         };
         let to = at.increment().add(Word::from_index(offset.min(63)));
-        if !kept.sites.contains(at) || !program.has(&place.routine, to) {
+        if !kept.sites.contains(at) || !program.base.has(&place.routine, to) {
             return Ok(());
         }
         kept.put_written(&written, &mut room.calls.exit);

@@ -1,18 +1,24 @@
 //! The search by the rules of sums: on from each fact until nothing grows, with targets left out that are not permitted; then back
 //! by sweeps that make the facts anew from what leads to them; and on again.
 
-ghost use Rattle.std.specs.Prelude.{◌≡◌, ◌<◌, ◌≤◌, None, true, IfErr, IfOk};
+ghost use Rattle.std.specs.Prelude.{◌≡◌, ◌≤◌, IfErr, IfOk};
+ghost use Rattle.certificate.specs.Exact.{AreLines};
+ghost use Rattle.certificate_lines.specs.CertificateInCode.{meaning};
+ghost use Rattle.certificate_lines.specs.declared.Version.TheVariants.{Three};
 ghost use Rattle.turns.specs.Counts.{IsSpentUp};
 
 use crate::fault::SearchFault;
+use crate::invariant::Invariant;
 use crate::needs::Needs;
-use crate::of_sums::invariants::SumInvariant;
 use crate::of_sums::merging::Merge;
 use crate::of_sums::program::SumProgram;
 use crate::of_sums::splits::Split;
 use crate::of_sums::steps::MergeTarget;
-use crate::of_sums::table::{InvariantMap, Table};
 use crate::of_sums::workspace::SumWorkspace;
+use crate::settings::SETTINGS;
+use crate::table::{InvariantMap, Table};
+use certificate::Certificate;
+use certificate_lines::Version;
 use facts::Fact;
 use instruct::{Format, Operation};
 use std::alloc::Allocator;
@@ -20,18 +26,6 @@ use std::mem::replace;
 use turns::{GuessFault, Turns};
 use word12::Word;
 use wordset::WordSet;
-
-/// How many sweeps go back at most.
-const MOST_SWEEPS: usize = 4;
-
-/// The most turns of all tries together.
-const MOST_TURNS: u32 = 40_000;
-
-/// How often a try keeps a chain on a cell that may hold many words: each costs a millisecond or two.
-const MOST_WIDE_CHAINS: usize = 300;
-
-/// The most words that may be possible at one address.
-pub(crate) const MOST_WORDS: usize = 64;
 
 /// Which way the search goes.
 #[derive(Clone, Copy, PartialEq, Eq)]
@@ -45,8 +39,8 @@ pub(crate) enum SearchPhase {
 }
 
 /// What is known, what is gathered in a sweep, which way the search goes, how facts are distinguished, which cells they speak
-/// of, the addresses from which to go on, how many turns this try may take yet, and all tries together, and how often this try may
-/// yet keep a chain on a cell that may hold many words.
+/// of, the addresses from which to go on, how many turns this try may take yet, and how often it may yet keep a chain on a cell
+/// that may hold many words.
 #[derive(Drop)]
 pub struct SumSearch<A: Allocator> {
     pub(crate) alloc: A,
@@ -54,42 +48,32 @@ pub struct SumSearch<A: Allocator> {
     pub(crate) gathered: Table<A>,
     pub(crate) way: SearchPhase,
     pub(crate) split: Split,
-    pub(crate) tracked: WordSet,
     pub(crate) reached: WordSet,
     pub(crate) needs: Option<Needs<A>>,
     pub(crate) waiting: WordSet,
     left: u32,
-    left_in_all: u32,
     pub(crate) wide_chains_left: usize,
 }
 
 impl<A: Allocator + Copy> SumSearch<A> {
     /// Before the first step.
-    pub fn new(alloc: A) -> SumSearch<A>
-        ensures alloc { result.alloc ≡ alloc }
-        ensures needs { result.needs ≡ None }
-        ensures left { result.left ≡ 0 }
-    {
+    pub fn new(alloc: A) -> SumSearch<A> {
         SumSearch {
             alloc,
             table: Table::new(alloc),
             gathered: Table::new(alloc),
             way: SearchPhase::Ascending,
             split: Split::none(),
-            tracked: WordSet::empty(),
             reached: WordSet::empty(),
             needs: None,
             waiting: WordSet::empty(),
             left: 0,
-            left_in_all: MOST_TURNS,
-            wide_chains_left: MOST_WIDE_CHAINS,
+            wide_chains_left: 0,
         }
     }
 
     /// The allocator.
-    pub fn allocator(&self) -> A
-        ensures { result ≡ self.now.alloc }
-    {
+    pub fn allocator(&self) -> A {
         self.alloc
     }
 
@@ -118,6 +102,17 @@ impl<A: Allocator + Copy> SumSearch<A> {
         self.run_to_fixpoint(program, &mut room, turns)
     }
 
+    /// The certificate of what was found, if no calls go round in a circle.
+    pub fn finish<D: Allocator>(
+        &mut self,
+        program: &SumProgram<'_, D>,
+    ) -> Result<Certificate<A>, SearchFault>
+        ensures lines { IfOk result (λ c. AreLines (meaning c)) }
+        ensures version { IfOk result (λ c. (meaning c).version ≡ Three) }
+    {
+        self.table.finish(self.alloc, &program.base, Version::Three)
+    }
+
     /// Forgets what was found, and keeps what is known at the start.
     fn begin<D: Allocator>(
         &mut self,
@@ -127,12 +122,11 @@ impl<A: Allocator + Copy> SumSearch<A> {
         self.table.forget();
         self.way = SearchPhase::Ascending;
         self.split = *split;
-        self.tracked = program.base.named;
         self.reached = program.reached;
         let partners = program.pointers.union(&program.base.limits.counted);
         self.needs = Some(Needs::of(self.alloc, &program.base, &partners, &program.base.named)?);
         self.waiting = WordSet::empty();
-        self.wide_chains_left = MOST_WIDE_CHAINS;
+        self.wide_chains_left = SETTINGS.most_wide_chains;
         self.start(program)?;
         SumWorkspace::new(self.alloc)
     }
@@ -152,13 +146,10 @@ impl<A: Allocator + Copy> SumSearch<A> {
 
     /// The cells that facts at an address speak of, and exits at their entry.
     fn tracked_at(&self, at: Word) -> WordSet {
-        let cells = match &self.needs {
-            None => self.tracked,
-            Some(needs) => needs.at(at).union(&self.reached),
-        };
-        match self.split.cell {
+        let cells = self.split.told.union(&self.reached);
+        match &self.needs {
             None => cells,
-            Some(cell) => cells.union(&WordSet::one(cell)),
+            Some(needs) => needs.at(at).union(&cells),
         }
     }
 
@@ -201,8 +192,8 @@ impl<A: Allocator + Copy> SumSearch<A> {
         let at = program.base.declaration.start();
         let tracked = self.tracked_at(at);
         let fact = Fact::any();
-        let case = self.split.case_of(at, &program.owner(at), &fact);
-        let mut kept = SumInvariant::without_cells(self.alloc, at, case, &fact);
+        let case = self.split.case_of(at, &program.base.owner(at), &fact);
+        let mut kept = Invariant::without_cells(self.alloc, at, case, &fact);
         for cell in tracked.iter() {
             if let Some(word) = program.base.image.get(cell) {
                 kept.track(cell, &WordSet::one(word))?;
@@ -220,7 +211,8 @@ impl<A: Allocator + Copy> SumSearch<A> {
         }
     }
 
-    /// Goes on until nothing grows.
+    /// Goes on from the least waiting address, and from those after it as long as no turn is taken, until no address waits: then
+    /// nothing grows.
     fn run_to_fixpoint<D: Allocator>(
         &mut self,
         program: &SumProgram<'_, D>,
@@ -233,35 +225,18 @@ impl<A: Allocator + Copy> SumSearch<A> {
         ensures spent { IfErr result (IsSpentUp turns.new) }
     {
         turns.are_within();
-        while self.go_on(program, room, turns)? {}
-        Ok(())
-    }
-
-    /// Goes on from the least waiting address, and from those after it until a turn is taken: as long as none is, nothing
-    /// grows. Tells whether one was taken; else no address waits any more.
-    fn go_on<D: Allocator>(
-        &mut self,
-        program: &SumProgram<'_, D>,
-        room: &mut SumWorkspace<A>,
-        turns: &mut Turns,
-    ) -> Result<bool, GuessFault>
-        ensures limit { turns.new.limit ≡ turns.old.limit }
-        ensures rises { turns.old.spent ≤ turns.new.spent }
-        ensures within { turns.new.spent ≤ turns.new.limit }
-        ensures taken { IfOk result (λ taken. taken ≡ true → turns.old.spent < turns.new.spent) }
-        ensures spent { IfErr result (IsSpentUp turns.new) }
-    {
-        let before = turns.spent();
         let mut next = 0usize;
         while let Some(at) = self.waiting.first_from(next) {
             self.waiting.remove(at);
+            let before = turns.spent();
             self.visit_waiting(program, at, room, turns)?;
-            if turns.spent() > before {
-                return Ok(true);
-            }
-            next = at.index() + 1;
+            next = if turns.spent() > before {
+                0
+            } else {
+                at.index() + 1
+            };
         }
-        Ok(false)
+        Ok(())
     }
 
     /// Goes on from those facts at an address that wait.
@@ -299,7 +274,7 @@ impl<A: Allocator + Copy> SumSearch<A> {
         ensures spent { IfErr result (IsSpentUp turns.new) }
     {
         turns.are_within();
-        for _sweep in 0..MOST_SWEEPS {
+        for _sweep in 0..SETTINGS.most_sweeps {
             self.sweep(program, room, turns)?;
         }
         self.way = SearchPhase::Ascending;
@@ -385,11 +360,10 @@ impl<A: Allocator + Copy> SumSearch<A> {
         ensures spent { IfErr result (IsSpentUp turns.new) }
     {
         turns.are_within();
-        if self.left == 0 || self.left_in_all == 0 {
+        if self.left == 0 {
             return Err(GuessFault::Stuck(at));
         }
         self.left -= 1;
-        self.left_in_all -= 1;
         turns.take()
     }
 }

@@ -1,37 +1,27 @@
 //! How the facts at an address are distinguished.
 
-ghost use Rattle.std.specs.Prelude.{◌≡◌, None, Some};
-ghost use Rattle.wordset.specs.Words.{nothing, union};
-ghost use Rattle.wordset.specs.Lanes.{words};
-
+use crate::invariant::Case;
 use crate::of_sums::program::SumProgram;
 use crate::of_sums::search::SumSearch;
+use crate::settings::SETTINGS;
 use domain::{Location, ReturnOffsets};
 use facts::KnownFact;
 use std::alloc::Allocator;
 use word12::{Link, Word};
 use wordset::{Links, WordSet};
 
-/// The most words of a cell by which facts are distinguished.
-pub(crate) const MOST_VALUES: usize = 16;
-
 /// By what the facts at an address are distinguished: those of the routines of some entries by the call and by how far the return
-/// word was incremented, those at some addresses and at the returns of some entries by the link, and all of them by the word of a
-/// cell.
+/// word was incremented, those of some more by the latter alone, those at some addresses and at the returns of some entries by the
+/// link, and all of them by the word of a cell and by that of the accumulator, where there is only one. And some cells of which
+/// all facts speak.
 #[derive(Clone, Copy)]
 pub struct Split {
-    pub(crate) called: WordSet,
-    pub(crate) links: WordSet,
+    called: WordSet,
+    skipping: WordSet,
+    links: WordSet,
+    by_accumulator: bool,
     pub(crate) cell: Option<Word>,
-}
-
-/// What distinguishes a fact from others at its address, as far as they are distinguished.
-#[derive(Clone, Copy, PartialEq, Eq)]
-pub(crate) struct Case {
-    pub(crate) site: Option<Word>,
-    pub(crate) offset: Option<usize>,
-    pub(crate) link: Option<Link>,
-    pub(crate) value: Option<Word>,
+    pub(crate) told: WordSet,
 }
 
 /// The one offset of some, if there is one and no other.
@@ -64,62 +54,55 @@ fn only_site<F: KnownFact>(known: &F) -> Option<Word> {
 
 impl Split {
     /// One fact at an address.
-    pub fn none() -> Split
-        ensures called { words result.called ≡ nothing }
-        ensures links { words result.links ≡ nothing }
-        ensures cell { result.cell ≡ None }
-    {
+    pub fn none() -> Split {
         Split {
             called: WordSet::empty(),
+            skipping: WordSet::empty(),
             links: WordSet::empty(),
+            by_accumulator: false,
             cell: None,
+            told: WordSet::empty(),
         }
     }
 
-    /// The entries of the routines whose facts are distinguished by the call.
-    pub fn called(&self) -> &WordSet
-        ensures { result.now ≡ self.now.called }
-    {
-        &self.called
+    /// The same, and those of the routines of some entries are distinguished by the call, if they are not yet.
+    pub fn by_calls(&self, entries: &WordSet) -> Option<Split> {
+        if entries.is_subset(&self.called) {
+            return None;
+        }
+        let mut split = *self;
+        split.called = self.called.union(entries);
+        Some(split)
     }
 
-    /// The same, and those of the routines of some entries are distinguished by the call.
-    pub fn by_calls(self, entries: &WordSet) -> Split
-        ensures called { words result.called ≡ union (words self.called) (words entries.now) }
-        ensures links { result.links ≡ self.links }
-        ensures cell { result.cell ≡ self.cell }
-    {
-        Split {
-            called: self.called.union(entries),
-            links: self.links,
-            cell: self.cell,
-        }
+    /// The same, and those of the routines of some entries are distinguished by how far the return word was incremented, and all
+    /// by the word of the accumulator.
+    pub fn by_offsets_and_accumulator(&self, entries: &WordSet) -> Split {
+        let mut split = *self;
+        split.skipping = self.skipping.union(entries);
+        split.by_accumulator = true;
+        split
     }
 
     /// The same, and those at some addresses and at the returns of some entries are distinguished by the link.
-    pub fn by_links(self, addresses: &WordSet) -> Split
-        ensures called { result.called ≡ self.called }
-        ensures links { words result.links ≡ union (words self.links) (words addresses.now) }
-        ensures cell { result.cell ≡ self.cell }
-    {
-        Split {
-            called: self.called,
-            links: self.links.union(addresses),
-            cell: self.cell,
-        }
+    pub fn by_links(&self, addresses: &WordSet) -> Split {
+        let mut split = *self;
+        split.links = self.links.union(addresses);
+        split
     }
 
     /// The same, and they are distinguished by the word of a cell.
-    pub fn by_cell(self, cell: Word) -> Split
-        ensures called { result.called ≡ self.called }
-        ensures links { result.links ≡ self.links }
-        ensures cell { result.cell ≡ Some cell }
-    {
-        Split {
-            called: self.called,
-            links: self.links,
-            cell: Some(cell),
-        }
+    pub fn by_cell(&self, cell: Word) -> Split {
+        let mut split = self.of_cells(&WordSet::one(cell));
+        split.cell = Some(cell);
+        split
+    }
+
+    /// The same, and all facts speak of some cells.
+    pub fn of_cells(&self, cells: &WordSet) -> Split {
+        let mut split = *self;
+        split.told = self.told.union(cells);
+        split
     }
 
     /// Whether the facts of a routine are distinguished by the call.
@@ -127,6 +110,14 @@ impl Split {
         match routine {
             None => false,
             Some(entry) => self.called.contains(*entry),
+        }
+    }
+
+    /// Whether the facts of a routine are distinguished by how far the return word was incremented.
+    fn is_by_offset(&self, routine: &Option<Word>) -> bool {
+        match routine {
+            None => false,
+            Some(entry) => self.called.contains(*entry) || self.skipping.contains(*entry),
         }
     }
 
@@ -154,17 +145,19 @@ impl Split {
         routine: &Option<Word>,
         known: &F,
     ) -> Case {
-        let apart = self.is_by_call(routine);
-        Case {
-            site: if apart { only_site(known) } else { None },
-            offset: if apart {
-                only_offset(known.offsets())
-            } else {
-                None
-            },
-            link: self.link_of(at, known),
-            value: self.value_of(known),
+        let mut case = Case::ONLY;
+        if self.is_by_call(routine) {
+            case.site = only_site(known);
         }
+        if self.is_by_offset(routine) {
+            case.offset = only_offset(known.offsets());
+        }
+        if self.by_accumulator {
+            case.ac = known.accumulator().only();
+        }
+        case.link = self.link_of(at, known);
+        case.value = self.value_of(known);
+        case
     }
 
     /// The case of a fact where the routine of an entry returns by an offset.
@@ -203,7 +196,7 @@ impl<A: Allocator + Copy> SumSearch<A> {
     fn has_few_words_at(&self, at: Word, cell: Word) -> bool {
         for kept in self.table.facts.row(at) {
             let count = kept.count_of(cell);
-            if count > 1 && count <= MOST_VALUES {
+            if count > 1 && count <= SETTINGS.most_values {
                 return true;
             }
         }

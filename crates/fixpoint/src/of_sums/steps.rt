@@ -1,26 +1,23 @@
 //! On from one fact by the words that are possible at its address.
 
-ghost use Rattle.std.specs.Prelude.{◌≡◌, ◌≤◌, IfErr, map, true};
-ghost use Rattle.domain.specs.ChainsInCode.{AreShort, chain_of};
+ghost use Rattle.std.specs.Prelude.{◌≡◌, ◌≤◌, IfErr};
 ghost use Rattle.turns.specs.Counts.{IsSpentUp};
 
 use crate::fault::SearchFault;
-use crate::invariant::are_short;
+use crate::invariant::Case;
 use crate::of_sums::program::SumProgram;
-use crate::of_sums::search::{MOST_WORDS, SearchPhase, SumSearch};
-use crate::of_sums::splits::{Case, MOST_VALUES};
+use crate::of_sums::search::{SearchPhase, SumSearch};
 use crate::of_sums::workspace::{CallWorkspace, PartWorkspace, SumWorkspace};
-use domain::{Chain, Location, ReturnOffsets};
-use facts::{Fact, FactPart, KnownFact, NarrowedFact, Place};
+use crate::outcomes::{abandoned_by, put_outcomes};
+use crate::settings::SETTINGS;
+use domain::{Location, ReturnOffsets};
+use facts::{Fact, FactPart, KnownFact, Place};
 use instruct::{refers_indirectly, target};
 use std::alloc::Allocator;
-use transfer::{FactOutcome, NextFact, OutcomeKind, Outcomes};
+use transfer::{FactOutcome, NextFact, OutcomeKind};
 use turns::{GuessFault, Turns};
 use word12::{Link, Word};
 use wordset::WordSet;
-
-/// The most words of a cell for which each chain on it is kept.
-const MOST_CHAINED_WORDS: usize = 256;
 
 /// Where facts go to be kept: from which address to which, and for what is joined there, in the body of which routine.
 #[derive(Clone, Copy)]
@@ -54,10 +51,10 @@ impl<A: Allocator + Copy> SumSearch<A> {
         if !room.calls.narrow(program.base.image) {
             return Ok(());
         }
-        let place = program.place(&program.owner(at));
+        let place = program.place(&program.base.owner(at));
         let mut possible = WordSet::empty();
         place.put_possible(&room.calls.fact, at, &mut possible);
-        if possible.count() > MOST_WORDS {
+        if possible.count() > SETTINGS.most_words {
             return Ok(());
         }
         for word in possible.iter() {
@@ -106,6 +103,7 @@ impl<A: Allocator + Copy> SumSearch<A> {
         let mut written = WordSet::empty();
         place.put_writes(&room.calls.fact, at, word, &mut written);
         self.write(&place.routine, &written)?;
+        room.calls.fact.is_within_room();
         if !put_outcomes(place, &room.calls.fact, at, word, &mut room.outcomes) {
             return Ok(());
         }
@@ -205,7 +203,7 @@ impl<A: Allocator + Copy> SumSearch<A> {
         rooms: &mut PartWorkspace<A>,
     ) -> Result<(), SearchFault> {
         for to in addresses.iter() {
-            if program.has(routine, to) {
+            if program.base.has(routine, to) {
                 let goal = MergeTarget {
                     from: at,
                     to,
@@ -354,59 +352,17 @@ impl<A: Allocator + Copy> SumSearch<A> {
     }
 }
 
-/// The addresses for which the running routine abandons all open calls by a word: where it is not main and the word is a JMP
-/// they are the declared ones, and else there are none.
-fn abandoned_by<D: Allocator>(place: &Place<'_, D>, word: Word) -> WordSet {
-    if place.routine.is_none() || !place.is_jump(word) {
-        return WordSet::empty();
-    }
-    *place.declaration.abandons()
-}
-
 /// Whether a cell may hold few enough words to go through each of them again and again.
 fn has_words_to_try<F: KnownFact>(fact: &F, cell: Word) -> bool {
     let mut set = WordSet::all();
     fact.put_set_of(&Location::Cell(cell), &mut set);
-    set.count() <= MOST_CHAINED_WORDS
+    set.count() <= SETTINGS.most_chained_words
 }
 
 /// Whether a set has more than one word, and few.
 fn has_few_words(set: &WordSet) -> bool {
     let count = set.count();
-    count > 1 && count <= MOST_VALUES
-}
-
-/// Whether each chain has room for one step more.
-#[tactic(auto, using(crate::proofs::RoomLemmas::steps_told))]
-fn have_room(chains: &[Chain]) -> bool
-    ensures { result ≡ true → AreShort (map chain_of chains.now) }
-{
-    for chain in chains {
-        if chain.steps().len() >= 17 {
-            return false;
-        }
-    }
-    true
-}
-
-/// Puts what may come of a word into the lent room, if the fact has few enough chains and terms.
-#[tactic(auto, using(crate::proofs::RoomLemmas::chains_told))]
-fn put_outcomes<D: Allocator>(
-    place: &Place<'_, D>,
-    fact: &NarrowedFact,
-    at: Word,
-    word: Word,
-    outcomes: &mut Outcomes,
-) -> bool {
-    if fact.chains().len() > 4 {
-        return false;
-    }
-    if !are_short(fact.relations().as_slice()) || !have_room(fact.chains()) {
-        return false;
-    }
-    fact.is_within_room();
-    place.put_outcomes(fact, at, word, outcomes);
-    true
+    count > 1 && count <= SETTINGS.most_values
 }
 
 /// Whether a run may go on by a word where the fact in the lent room holds; where what it refers to is only permitted in part,

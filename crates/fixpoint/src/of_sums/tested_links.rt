@@ -1,19 +1,17 @@
 //! Where it matters what the link is: where a skip may test it before a word sets or rotates it.
 
 use crate::program::AnalysedProgram;
+use crate::settings::SETTINGS;
 use instruct::{Format, Operation, clears_link, rotates, target, tests_link};
 use std::alloc::Allocator;
 use word12::Word;
 use wordset::WordSet;
 
-/// How often all words are gone through at most.
-const MOST_ROUNDS: usize = 64;
-
 /// The addresses from which a run may come to a skip that tests the link as it is there, and the entries of the routines after
 /// whose return it may.
 pub(crate) fn tested_links<D: Allocator>(program: &AnalysedProgram<'_, D>) -> WordSet {
     let mut tested = WordSet::empty();
-    for _round in 0..MOST_ROUNDS {
+    for _round in 0..SETTINGS.most_rounds {
         let more = with_words_before(program, &tested);
         if more.is_subset(&tested) {
             return tested;

@@ -1,7 +1,7 @@
 //! Room that is lent to each step of the search by the rules of sums.
 
 use crate::fault::SearchFault;
-use crate::of_sums::invariants::{has_room_for_cell, narrow};
+use crate::invariant::{has_room_for_cell, narrow};
 use bin_tape::Image;
 use domain::{Location, ReturnOffsets, Rules};
 use facts::{ChosenFact, Fact, LinkPart, MetFact, NarrowedFact, PartFact};

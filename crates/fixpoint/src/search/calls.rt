@@ -1,13 +1,12 @@
 //! Calls and returns in a search: on into a routine, from each return that is known, and out of a routine.
 
 use crate::fault::SearchFault;
-use crate::invariant::Invariant;
+use crate::invariant::{Case, Invariant};
 use crate::program::{AbstractState, AnalysedProgram};
 use crate::search::{Search, known_of};
 use crate::workspace::ReturnWorkspace;
-use declaration::Owner;
 use domain::ReturnOffsets;
-use facts::Fact;
+use facts::Place;
 use std::alloc::Allocator;
 use transfer::FactOutcome;
 use word12::Word;
@@ -52,13 +51,14 @@ impl<A: Allocator + Copy> Search<A> {
         if visit.at.index() > LAST_SITE {
             return Err(SearchFault::Stuck(visit.at));
         }
-        let mut written = self.guess.routine(entry).writes;
+        let mut written = self.table.routines.routine(entry).writes;
         written.insert(entry);
-        self.write(&visit.body, &written);
+        self.write(&visit.routine, &written)?;
         let mut entering = known_of(program, &visit.fact);
         entering.offsets = ReturnOffsets::none();
         entering.offsets.insert(0);
-        self.reach(program, entry.increment(), &entering, self.ahead)?;
+        let ahead = self.patience.ahead;
+        self.reach(program, entry.increment(), &entering, &ahead)?;
         self.land(program, visit, entry, returns)
     }
 
@@ -69,14 +69,10 @@ impl<A: Allocator + Copy> Search<A> {
         entry: Word,
         at: Word,
     ) -> Result<(), SearchFault> {
-        self.guess.list(self.alloc, entry)?;
-        let mut routine = self.guess.routine(entry);
-        if routine.sites.contains(at) {
-            return Ok(());
+        let (site, none) = (WordSet::one(at), WordSet::empty());
+        if self.table.routines.claim(entry, &site, &none)? {
+            self.visit_again(&program.body_of(entry).meet(&program.lookers));
         }
-        routine.sites.insert(at);
-        self.guess.set_routine(entry, routine);
-        self.visit_again(&program.body_of(entry).meet(&program.lookers));
         Ok(())
     }
 
@@ -88,61 +84,46 @@ impl<A: Allocator + Copy> Search<A> {
         entry: Word,
         returns: &mut ReturnWorkspace,
     ) -> Result<(), SearchFault> {
-        let written = self.guess.routine(entry).writes;
+        let written = self.table.routines.routine(entry).writes;
+        let ahead = self.patience.ahead;
         for offset in 0..8usize {
-            if self.exit_into(entry, offset, &written, &mut returns.exit)? {
+            if let Some(kept) = self.table.exits.find(entry, &Case::of_exit(offset)) {
+                kept.put_written(&written, &mut returns.exit);
                 let to = visit.at.increment().add(Word::from_index(offset));
-                if !program.declaration.in_body_of(visit.body, to) {
+                if !program.has(&visit.routine, to) {
                     return Err(SearchFault::Stuck(visit.at));
                 }
                 returns.join(&program.rules, &visit.fact, &written);
                 let known = known_of(program, &returns.joined);
-                self.reach(program, to, &known, self.ahead)?;
+                self.reach(program, to, &known, &ahead)?;
             }
         }
         Ok(())
-    }
-
-    /// Whether a return is known; the lent fact then says what holds of the accumulator and of written
-    /// cells.
-    fn exit_into(
-        &self,
-        entry: Word,
-        offset: usize,
-        written: &WordSet,
-        exit: &mut Fact,
-    ) -> Result<bool, SearchFault> {
-        match self.guess.kept_exit(entry, offset) {
-            None => Ok(false),
-            Some(kept) => {
-                let left = kept.written(self.alloc, written)?;
-                Ok(left.fact_into(exit))
-            }
-        }
     }
 
     /// Returns by a word. In versions 1 and 2 an exit line has an offset of at most 7.
     pub(crate) fn take_returns<D: Allocator>(
         &mut self,
         program: &AnalysedProgram<'_, D>,
+        place: &Place<'_, D>,
         visit: &AbstractState,
         word: Word,
     ) -> Result<(), SearchFault> {
-        let Owner::Routine(entry) = &visit.body else {
+        let Some(entry) = visit.routine else {
             return Err(SearchFault::Stuck(visit.at));
         };
-        if program.returned_entry(visit, word) != Some(*entry) {
+        if place.returned_entry(visit.at, word) != Some(entry) {
             return Err(SearchFault::Stuck(visit.at));
         }
         for offset in 0..64usize {
             if visit.fact.offsets().contains(offset) {
                 let declared = program
                     .declaration
-                    .has_offset(*entry, Word::from_index(offset));
+                    .has_offset(entry, Word::from_index(offset));
                 if !declared || offset >= 8 {
                     return Err(SearchFault::Stuck(visit.at));
                 }
-                self.reach_exit(program, visit, *entry, offset)?;
+                self.reach_exit(program, visit, entry, offset)?;
             }
         }
         Ok(())
@@ -156,23 +137,21 @@ impl<A: Allocator + Copy> Search<A> {
         entry: Word,
         offset: usize,
     ) -> Result<(), SearchFault> {
-        let limits = &program.limits;
+        let (alloc, limits, case) = (self.alloc, &program.limits, Case::of_exit(offset));
         let known = known_of(program, &visit.fact);
-        if self.guess.has_exit(entry, offset) {
-            if !self
-                .guess
-                .join_exit(self.alloc, entry, offset, &known, limits, self.ahead)?
-            {
-                return Ok(());
-            }
-        } else {
+        let ahead = self.patience.ahead;
+        let mut grew = self.table.exits.find(entry, &case).is_none();
+        if grew {
             let tracked = self.tracked_at(entry);
-            let kept = Invariant::of(self.alloc, visit.at, &tracked, &known, limits)?;
-            self.guess.list(self.alloc, entry)?;
-            self.guess.keep_exit(entry, offset, kept)?;
+            let kept = Invariant::of_incoming(alloc, visit.at, case, &tracked, &known, limits)?;
+            self.table.exits.keep(alloc, entry, kept)?;
+        } else if let Some(kept) = self.table.exits.find_mut(entry, &case) {
+            grew = kept.join_incoming(alloc, &known, limits, &ahead)?;
         }
-        let sites = self.guess.routine(entry).sites;
-        self.visit_again(&sites);
+        if grew {
+            let sites = self.table.routines.routine(entry).sites;
+            self.visit_again(&sites);
+        }
         Ok(())
     }
 }

@@ -205,7 +205,7 @@ const COMMANDS: [Entry; 16] = [
         name: "source",
         usage: "pdp8 source [OPTIONS] <TAPE> [-o] <OUT>",
         about: "Writes a PAL III source for a tape; assemble makes the same words from it",
-        after_help: "OUT stays as it was if there is nothing to write. Without --force, a source that this command did not write is kept as well. Without a declaration, the code is found by following the control flow from the start. With one, the declaration says what is code, where the program starts and which machine it is for.\n\nExample:\n  pdp8 source hello.bin -o found.pal",
+        after_help: "OUT stays as it was if there is nothing to write. Without --force, a file that this command did not write is kept as well. Without a declaration, the code is found by following the control flow from the start. With one, the declaration says what is code, where the program starts and which machine it is for.\n\nExample:\n  pdp8 source hello.bin -o found.pal",
         arguments: &[
             Argument {
                 name: "TAPE",
@@ -228,7 +228,7 @@ const COMMANDS: [Entry; 16] = [
             Argument {
                 name: "force",
                 form: Form::Flag,
-                help: "also replaces a source that this command did not write",
+                help: "also replaces a file that this command did not write",
             },
             WHY_INPUT,
         ],

@@ -94,8 +94,12 @@ pub enum Misuse {
     PlacedIsSource,
     /// Another result is to go to a file that is named like a source.
     ResultIsSource,
-    /// A source is to go to a file that is named like one, exists, and was not written by this command.
+    /// A source is to go to a file that exists and was not written by this command.
     SourceIsKept,
+    /// The operand OUT is a file that holds something other than what the command writes.
+    ResultIsKept,
+    /// Standard output goes to a file that is also an input or another output.
+    StandardOutputIsTaken,
     /// The report is to go to an input, or where the result goes.
     ReportIsTaken,
     /// The report is to go to a file that is named like a source.
@@ -106,7 +110,7 @@ pub enum Misuse {
     PunchIsSource,
     /// What is found is to go to files without a name.
     SaveIsFolder,
-    /// What is found is to go to an input.
+    /// What is found is to go to an input, or two files are to be saved in one.
     SaveIsTaken,
     /// There is a report, and standard input, which cannot be read twice.
     ReportOfStandardInput,
@@ -195,6 +199,10 @@ impl Misuse {
                 "OUT is named like a source: the result needs a file name with another ending",
             Misuse::SourceIsKept =>
                 "OUT is a file that this command did not write, so it is kept: give OUT another name, or use --force to replace it",
+            Misuse::ResultIsKept =>
+                "OUT is a file with something other than what this command writes, so it is kept: use '-o OUT' to replace it",
+            Misuse::StandardOutputIsTaken =>
+                "standard output goes to a file that is also an input or another output: the result needs a file of its own",
             _ => return None,
         })
     }
@@ -213,7 +221,8 @@ impl Misuse {
                 "the file of '--punch' has the name of a source: give what is punched a file name with another ending",
             Misuse::SaveIsFolder =>
                 "'--save NAME' needs a NAME such as 'found', with which the names of the files begin",
-            Misuse::SaveIsTaken => "'--save NAME' would replace an input: give another NAME",
+            Misuse::SaveIsTaken =>
+                "'--save NAME' would replace an input, or one of its files by another: give another NAME",
             _ => return None,
         })
     }

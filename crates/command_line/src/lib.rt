@@ -25,7 +25,7 @@ pub use fault::{CommandLineFault, Misuse, PlaceOption};
 pub use names::FileNames;
 pub use operator::{DeviceConnections, Interrupt, Session, TeletypeSession, WatchedSession};
 pub use outputs::{
-    CERTIFICATE_ENDING, DECLARATION_ENDING, Destination, EVENTS_ENDING, SaveOptions, is_source_name,
+    CERTIFICATE_ENDING, DECLARATION_ENDING, Destination, EVENTS_ENDING, SaveOptions,
 };
 pub use place_options::{AddressReader, PlaceOptions, StopOptions};
 pub use program_command::ProgramCommand;

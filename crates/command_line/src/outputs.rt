@@ -100,7 +100,7 @@ fn ends_in_any(name: &str, endings: &[&str]) -> bool
 }
 
 /// Whether a name ends as that of a source does.
-pub fn is_source_name(name: &str) -> bool
+fn is_source_name(name: &str) -> bool
     ensures { result ≡ is_source_name name.now }
 {
     ends_in_any(name, &SOURCE_ENDINGS)

@@ -133,7 +133,7 @@ pub struct SourceRequest<'a> {
     pub tape: &'a str,
     /// Where the source goes.
     pub out: Destination<'a>,
-    /// Whether a file that is named like a source is replaced even if it was not written by the command.
+    /// Whether a file is replaced even if it was not written by the command.
     pub forced: bool,
     /// The name of the declaration's file, if there is one.
     pub declaration: Option<&'a str>,

@@ -1,8 +1,9 @@
 //! The lines that are printed below the line of a fault. The faulty file is read again for them, if it can be read
 //! twice. They are tested, not proved.
 
-use crate::files::{bytes_of, is_read_once};
+use crate::files::{bytes_of, is_read_once, read_error};
 use crate::hints::CommandFiles;
+use crate::replacing::write_error;
 use crate::source_faults::{NO_WORD, output_name};
 use command_line::explanations::push_advice;
 use command_line::{FileNames, MachineTask, Request};
@@ -10,19 +11,15 @@ use command_parts::status::{DeviceFault, Fault};
 use command_parts::visible::visible_text;
 use declaration::DeclarationFault;
 use diagnostics::inputs::{FaultyFile, push_fault};
-use std::alloc::Global;
+use std::alloc::{AllocError, Global};
 use std::fmt::Write;
+use std::io;
 use std::rt::Files;
 use turns::{GuessFault, ProposeFault};
 
 /// The message about a run that ends at a word that the machine does not implement.
 pub(crate) const UNSUPPORTED: &str =
     "the machine does not implement the word there\nwhat to do: look at it with `pdp8 dump`; a word of the PDP-8/E needs --profile 8e; otherwise neither of the two machines modelled supports the word, or the program ran into data\n";
-
-/// Whether an input cannot be opened or read. An input that can be read only once is not tried.
-fn is_unread<R: Files + Input>(rt: &R, alloc: Global, name: &str) -> bool {
-    !is_read_once(rt, name) && matches!(bytes_of(rt, alloc, name), Err(Fault::Device(_)))
-}
 
 /// The lines about an input that has a fault. There are none for standard input or a pipe, which cannot be read twice.
 fn input_lines<R: Files + Input>(
@@ -53,37 +50,73 @@ fn displayed_name<'n>(name: &'n str) -> &'n str {
     if name.is_empty() { "\"\"" } else { name }
 }
 
-/// The line about an input that cannot be opened or read: the first such input, if there is one.
+/// Adds the line about a file that cannot be used in this way, and why if that is known. The number that the system gives
+/// to the reason is left out.
+fn push_failure(
+    alloc: Global,
+    text: &mut String,
+    name: &str,
+    problem: &str,
+    error: &Option<io::Error>,
+) -> Result<(), AllocError> {
+    let shown = visible_text(alloc, displayed_name(name))?;
+    let Some(error) = error else {
+        return writeln!(text, "{shown} {problem}");
+    };
+    let mut reason = String::new(alloc);
+    write!(reason, "{error}")?;
+    let reason = match reason.split_once(" (os error") {
+        Some((words, _)) => words,
+        None => reason.as_str(),
+    };
+    writeln!(text, "{shown} {problem}: {reason}")
+}
+
+/// The line about an input that cannot be opened or read: the first such input, if there is one. An input that can be
+/// read only once is not tried.
 fn unread_line<R: Files + Input>(rt: &R, alloc: Global, files: &CommandFiles<'_, '_>) -> String {
     let mut text = String::new(alloc);
     let Ok(names) = files.inputs(alloc) else {
         return text;
     };
     for name in &names {
-        if is_unread(rt, alloc, name) {
-            if let Ok(shown) = visible_text(alloc, displayed_name(name)) {
-                let _ = writeln!(text, "{shown} cannot be opened or read");
-            }
+        if is_read_once(rt, name) {
+            continue;
+        }
+        let error = read_error(rt, alloc, name);
+        if error.is_some() {
+            let _ = push_failure(alloc, &mut text, name, "cannot be opened or read", &error);
             return text;
         }
     }
     text
 }
 
-/// The line about an output that cannot be created or written. If there are two outputs, it names both, since either
-/// may be meant.
-fn unwritten_line(alloc: Global, names: &FileNames<'_>) -> String {
+/// The line about a file that cannot be created or written.
+pub(crate) fn unwritten_file<R: Files>(rt: &R, alloc: Global, name: &str) -> String {
     let mut text = String::new(alloc);
-    let Some(output) = names.output else {
-        return text;
-    };
-    let Ok(first) = visible_text(alloc, displayed_name(output_name(output))) else {
-        return text;
-    };
+    let error = write_error(rt, alloc, name);
+    let problem = "cannot be created or written";
+    let _ = push_failure(alloc, &mut text, output_name(name), problem, &error);
+    text
+}
+
+/// The line about an output that cannot be created or written. If there are two outputs and either may be meant, it names
+/// both.
+fn unwritten_line<R: Files>(rt: &R, alloc: Global, names: &FileNames<'_>) -> String {
+    let output = names.output.unwrap_or("-");
     let other = names.second_output.unwrap_or(output);
-    if other == output {
-        let _ = writeln!(text, "{first} cannot be created or written");
-    } else if let Ok(second) = visible_text(alloc, displayed_name(output_name(other))) {
+    if other == output || write_error(rt, alloc, output).is_some() {
+        return unwritten_file(rt, alloc, output);
+    }
+    if write_error(rt, alloc, other).is_some() {
+        return unwritten_file(rt, alloc, other);
+    }
+    let mut text = String::new(alloc);
+    if let (Ok(first), Ok(second)) = (
+        visible_text(alloc, displayed_name(output_name(output))),
+        visible_text(alloc, displayed_name(output_name(other))),
+    ) {
         let _ = writeln!(
             text,
             "one of these cannot be created or written: {first}, {second}"
@@ -123,7 +156,7 @@ pub fn fault_lines<R: Files + Input>(
 ) -> String {
     match fault {
         Fault::Device(DeviceFault::Read) => unread_line(rt, alloc, files),
-        Fault::Device(DeviceFault::Write) => unwritten_line(alloc, &files.names),
+        Fault::Device(DeviceFault::Write) => unwritten_line(rt, alloc, &files.names),
         _ if !files.explained => String::new(alloc),
         Fault::Guess(GuessFault::TurnsSpent) => advice(alloc, "TurnsSpent"),
         Fault::Declare(ProposeFault::Undeclarable(fault)) => undeclarable_lines(alloc, *fault),

@@ -15,6 +15,21 @@ pub(crate) enum Kind {
     OtherBytes,
 }
 
+impl Kind {
+    /// What such a file is called.
+    pub(crate) fn text(&self) -> &'static str {
+        match self {
+            Kind::Tape => "a tape",
+            Kind::Source => "a source",
+            Kind::Declaration => "a declaration",
+            Kind::Certificate => "a certificate",
+            Kind::Events => "a list of events",
+            Kind::OtherText => "text",
+            Kind::OtherBytes => "something else",
+        }
+    }
+}
+
 /// The words that a line of a declaration can begin with.
 const DECLARATION_KEYWORDS: [&[u8]; 13] = [
     b"start", b"main", b"sub", b"var", b"stop", b"pause", b"profile", b"read", b"skips", b"moves",

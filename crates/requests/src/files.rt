@@ -9,13 +9,13 @@ use command_parts::status::{DeviceFault, Fault, Status};
 use either::Either;
 use std::alloc::Global;
 use std::fs;
-use std::io::{self, Printer};
+use std::io::{self, ErrorKind, Printer, Read};
 use std::rt::Files;
 use streams::standard::{StdReader, StdWriter};
 use streams::{put, read_at_most};
 
 /// The most bytes of a file that are read at once: one more than any input may have.
-const READ_LIMIT: usize = 1_048_577;
+pub(crate) const READ_LIMIT: usize = 1_048_577;
 
 /// The input that a name on the command line stands for: standard input for `-`, otherwise a file.
 pub(crate) fn input_of<R: Files + Input>(
@@ -67,8 +67,19 @@ pub(crate) fn bytes_of<R: Files + Input>(
     Ok(read_at_most(alloc, &mut input, READ_LIMIT)?)
 }
 
+/// The bytes of the plain file with this name, of which at most `READ_LIMIT` are read: none if there is no such file,
+/// and `None` if it cannot be read.
+pub(crate) fn old_bytes<R: Files + Input>(rt: &R, alloc: Global, name: &str) -> Option<Vec<u8>> {
+    let is_plain = fs::metadata(rt, name).is_ok_and(|found| found.is_file());
+    if is_plain {
+        bytes_of(rt, alloc, name).ok()
+    } else {
+        Some(Vec::new(alloc))
+    }
+}
+
 /// Whether a plain file with this name exists, is not empty and, as far as its bytes show, was not written by this
-/// program: it does not begin with this prefix, and differs from this text.
+/// program: it does not begin with this prefix, and differs from this text. A file that cannot be read counts too.
 pub(crate) fn is_foreign<R: Files + Input>(
     rt: &R,
     alloc: Global,
@@ -76,16 +87,21 @@ pub(crate) fn is_foreign<R: Files + Input>(
     prefix: &[u8],
     text: &[u8],
 ) -> bool {
-    let has_bytes = fs::metadata(rt, name).is_ok_and(|found| found.is_file() && found.len() > 0);
-    if !has_bytes {
-        return false;
+    match old_bytes(rt, alloc, name) {
+        Some(old) => !old.is_empty() && !old.starts_with(prefix) && *old != *text,
+        None => true,
     }
-    let Ok(mut input) = open_input(rt, name) else {
-        return false;
-    };
-    match read_at_most(alloc, &mut input, READ_LIMIT) {
-        Ok(bytes) => !bytes.starts_with(prefix) && *bytes != *text,
-        Err(_) => true,
+}
+
+/// Why a file cannot be opened or read, if that is so. At most `READ_LIMIT` bytes of it are read.
+pub(crate) fn read_error<R: Files>(rt: &R, alloc: Global, name: &str) -> Option<io::Error> {
+    let mut bytes = Vec::new(alloc);
+    match fs::open(rt, name) {
+        Ok(file) => {
+            let mut input = file.take(READ_LIMIT as u64);
+            input.read_to_end(&mut bytes).err()
+        }
+        Err(error) => Some(error),
     }
 }
 
@@ -113,6 +129,15 @@ pub fn open_parts<R: Files + Input>(
 /// Where a result goes: standard output, or a file.
 pub type ResultSink<'r, R> = Either<Printer<'r, R>, ResultFile<'r, R>>;
 
+/// The fault of a result that cannot be written.
+pub(crate) fn write_fault(error: &io::Error) -> Fault {
+    if error.kind() == ErrorKind::OutOfMemory {
+        Fault::NoMemory
+    } else {
+        Fault::Device(DeviceFault::Write)
+    }
+}
+
 /// Opens the output for a result; `-` is standard output. The output operand of `assemble`, `guess` or `migrate` is
 /// created or emptied at once. For that of any other command, it is only checked at once that it can be written. The
 /// file of `-o` is not touched before its first byte is written. What is written to a file is in place after
@@ -136,7 +161,7 @@ pub fn open_output<'r, R: Files + Print>(
         Destination::CheckedFirst(_) => file.check(),
         Destination::MadeLast(_) => Ok(()),
     };
-    opened.map_err(|_| Fault::Device(DeviceFault::Write))?;
+    opened.map_err(|error| write_fault(&error))?;
     Ok(Either::Right(file))
 }
 
@@ -145,14 +170,13 @@ pub fn open_output<'r, R: Files + Print>(
 ///
 /// # Errors
 ///
-/// `Device` with `Write` if the result cannot be put there.
+/// `Device` with `Write` if the result cannot be put there, and `NoMemory` if memory was refused.
 pub fn finish<R: Files + Print>(
     out: &mut ResultSink<'_, R>,
     status: Status,
 ) -> Result<Status, Fault> {
     if let Either::Right(file) = out {
-        file.finish()
-            .map_err(|_| Fault::Device(DeviceFault::Write))?;
+        file.finish().map_err(|error| write_fault(&error))?;
     }
     Ok(status)
 }

@@ -1,5 +1,6 @@
 //! What a report says about a program and its files. This is tested, not proved.
 
+use crate::files::{READ_LIMIT, bytes_of};
 use crate::hints::CommandFiles;
 use crate::source_faults::input_name;
 use command_parts::visible::visible_text;
@@ -10,7 +11,6 @@ use reports::reporting::PageNames;
 use std::alloc::{AllocError, Global};
 use std::fmt::Write;
 use std::fs::{self, Metadata};
-use std::io::Read;
 use std::path::Path;
 use std::rt::Files;
 
@@ -18,14 +18,13 @@ use std::rt::Files;
 const UNITS: &str =
     ". A sum is that of the file's bytes, in octal, modulo 200000; a date is that of its last change, in UTC.";
 
-/// The sum of the bytes of a file, modulo 65536, if the file can be read.
-fn sum_of<R: Files>(rt: &R, alloc: Global, name: &str) -> Option<u16> {
-    let mut bytes = Vec::new(alloc);
-    let _ = fs::open(rt, name).ok()?.read_to_end(&mut bytes).ok()?;
+/// The sum of the bytes of a file, modulo 65536, if the file can be read and is not longer than any input may be.
+fn sum_of<R: Files + Input>(rt: &R, alloc: Global, name: &str) -> Option<u16> {
+    let bytes = bytes_of(rt, alloc, name).ok()?;
     let sum = bytes
         .iter()
         .fold(0u16, |sum, byte| sum.wrapping_add(u16::from(*byte)));
-    Some(sum)
+    (bytes.len() < READ_LIMIT).then_some(sum)
 }
 
 /// The date of a file's last change, if it is known.
@@ -35,7 +34,7 @@ fn date_of(found: &Metadata) -> Option<Date> {
 }
 
 /// Adds the name of a file and, for a plain file, the sum of its bytes and the date of its last change.
-fn push_file<R: Files>(
+fn push_file<R: Files + Input>(
     rt: &R,
     alloc: Global,
     text: &mut String,
@@ -75,7 +74,7 @@ pub(crate) struct NamedFiles {
 impl NamedFiles {
     /// The names of a program's files, of its declaration and of the other inputs of a command. The plain files among
     /// them are read again for the sums of their bytes.
-    pub(crate) fn of<R: Files>(
+    pub(crate) fn of<R: Files + Input>(
         rt: &R,
         alloc: Global,
         command: &CommandFiles<'_, '_>,

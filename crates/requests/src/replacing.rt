@@ -1,24 +1,27 @@
-//! A file for a result, which replaces the old file only when it is complete: until then, everything is written to a
-//! temporary file beside it, so that neither a full disk nor a fault halfway loses the old contents. Where the temporary
-//! file cannot take the old file's place and is copied into it, it stays if the copy fails. All of this is tested, not
+//! A file for a result. What is written is kept in memory until it is complete. Then it goes to a temporary file beside
+//! the old one, which it replaces, so that neither a full disk nor a fault halfway loses the old contents. A file that
+//! cannot be replaced is written in place, and gets its old contents back if that fails. All of this is tested, not
 //! proved.
 
 use std::alloc::{AllocError, Global};
 use std::fmt::Write;
-use std::fs::{self, Metadata, OpenOptions, Permissions};
-use std::io::{self, Read};
-use std::os::unix::fs::{MetadataExt, PermissionsExt, chown};
+use std::fs::{self, Metadata, OpenFile, OpenOptions, Permissions};
+use std::io::{self, ErrorKind, Read, Seek, Write as _};
+use std::os::unix::fs::{MetadataExt, OpenOptionsExt, PermissionsExt};
 use std::path::Path;
 use std::rt::Files;
-
-/// How many names are tried for a temporary file.
-const MAX_NAMES: u32 = 1_000;
 
 /// How many symbolic links are followed from one to the next.
 const MAX_LINKS: u32 = 40;
 
-/// Where Linux says how large a file this program may write.
-static LIMITS_PATH: &str = "/proc/self/limits";
+/// The mode of a temporary file that is to get the mode of an old file: nobody else may open it before.
+const PRIVATE_MODE: u32 = 0o600;
+
+/// The mode of a new file, from which the system takes what the user withholds.
+const NEW_MODE: u32 = 0o666;
+
+/// Where the system gives random bytes.
+static RANDOM_PATH: &str = "/dev/urandom";
 
 /// A temporary file beside another file, which is removed unless it has replaced that file.
 struct TemporaryFile<'r, R: Files> {
@@ -36,53 +39,61 @@ impl<R: Files> Drop for TemporaryFile<'_, R> {
     }
 }
 
-/// A name for a temporary file beside the file at this path.
-fn name_beside(alloc: Global, path: &str, number: u32) -> Result<String, AllocError> {
-    let mut name = String::new(alloc);
-    write!(name, ".pdp8-{number}").map_err(|_| AllocError)?;
-    Ok(Path::new(path).with_file_name(alloc, &name)?.into_string())
-}
-
 /// The I/O error for memory that was refused.
 fn no_memory(_refused: AllocError) -> io::Error {
-    io::Error::from(io::ErrorKind::OutOfMemory)
+    io::Error::from(ErrorKind::OutOfMemory)
 }
 
-/// Creates a temporary file beside the file at this path, under a name that no file has.
+/// A number that nobody can foresee; 0 if the system gives none.
+fn random_number<R: Files>(rt: &R) -> u64 {
+    let mut bytes = [0; 8];
+    if let Ok(mut source) = fs::open(rt, RANDOM_PATH) {
+        let _ = source.read(&mut bytes);
+    }
+    u64::from_le_bytes(bytes)
+}
+
+/// Creates a temporary file of this mode beside the file at this path, under a name that nobody can foresee.
 fn make_beside<'r, R: Files>(
     rt: &'r R,
     alloc: Global,
     path: &str,
+    mode: u32,
 ) -> io::Result<(R::File, TemporaryFile<'r, R>)> {
-    for number in 0..MAX_NAMES {
-        let name = name_beside(alloc, path, number).map_err(no_memory)?;
-        let made = OpenOptions::new()
-            .write(true)
-            .create_new(true)
-            .open(rt, &name);
-        match made {
-            Ok(file) => return Ok((file, TemporaryFile { rt, name })),
-            Err(error) if error.kind() == io::ErrorKind::AlreadyExists => {}
-            Err(error) => return Err(error),
-        }
-    }
-    Err(io::Error::from(io::ErrorKind::AlreadyExists))
+    let number = random_number(rt);
+    let mut name = String::new(alloc);
+    write!(name, ".pdp8-{number:016x}").map_err(|_| no_memory(AllocError))?;
+    let name = Path::new(path)
+        .with_file_name(alloc, &name)
+        .map_err(no_memory)?
+        .into_string();
+    let file = OpenOptions::new()
+        .write(true)
+        .create_new(true)
+        .mode(mode)
+        .open(rt, &name)?;
+    Ok((file, TemporaryFile { rt, name }))
 }
 
-/// Whether a path is a name that Linux gives to an open stream.
-fn is_stream(path: &str) -> bool {
-    path.starts_with("/dev/fd/") || path.starts_with("/proc/")
+/// Whether a file at this path may be replaced, as far as the path tells: it is not a name that Linux gives to an open
+/// stream, and does not end as that of a folder.
+fn is_replaceable(path: &str) -> bool {
+    let last = path.split('/').last().unwrap_or("");
+    let is_stream = path.starts_with("/dev/fd/") || path.starts_with("/proc/");
+    !is_stream && !last.is_empty() && last != "." && last != ".."
 }
 
-/// The path of the file with this name, after all symbolic links; `None` if no temporary file may replace it.
+/// The path of the plain file with this name, or of nothing yet, after all symbolic links; `None` if no temporary file
+/// may replace what is there.
 fn place_of<R: Files>(rt: &R, alloc: Global, name: &str) -> Result<Option<String>, AllocError> {
     let mut path = String::from_str(alloc, name)?;
     for _ in 0..MAX_LINKS {
-        if is_stream(&path) || path.is_empty() || path.ends_with('/') {
+        if !is_replaceable(&path) {
             return Ok(None);
         }
         match fs::symlink_metadata(rt, &path) {
             Ok(found) if found.is_symlink() => {}
+            Ok(found) if !found.is_file() => return Ok(None),
             _ => return Ok(Some(path)),
         }
         let Ok(target) = rt.read_link(alloc, &path) else {
@@ -96,28 +107,85 @@ fn place_of<R: Files>(rt: &R, alloc: Global, name: &str) -> Result<Option<String
     Ok(None)
 }
 
-/// Gives a temporary file the owner, the group and the permissions of the file that it is to replace.
-fn copy_permissions<R: Files>(rt: &R, beside: &str, found: &Metadata) -> io::Result<()> {
-    let made = fs::metadata(rt, beside)?;
-    if made.uid() != found.uid() || made.gid() != found.gid() {
-        chown(rt, beside, Some(found.uid()), Some(found.gid()))?;
+/// What is known of the file with this name, which must be one that can be written; `None` if there is no such file.
+fn old_file<R: Files>(rt: &R, name: &str) -> io::Result<Option<Metadata>> {
+    match OpenOptions::new().write(true).open(rt, name) {
+        Ok(file) => Ok(Some(file.metadata()?)),
+        Err(error) if error.kind() == ErrorKind::NotFound => Ok(None),
+        Err(error) => Err(error),
     }
-    fs::set_permissions(rt, beside, Permissions::from_mode(found.mode() & 0o7777))
 }
 
-/// The limit that a line of Linux's list of limits gives, if it is the limit on the size of files.
-fn limit_on(line: &str) -> Option<u64> {
-    let limits = line.strip_prefix("Max file size")?;
-    limits.split_whitespace().next()?.parse::<u64>().ok()
+/// Why the file with this name cannot be created or written, if that is so and a temporary file may replace it.
+pub(crate) fn write_error<R: Files>(rt: &R, alloc: Global, name: &str) -> Option<io::Error> {
+    let mut file = ResultFile::new(rt, alloc, name).ok()?;
+    if name == "-" || file.path.is_none() {
+        return None;
+    }
+    file.check().err()
 }
 
-/// The most bytes that this program may write to a file, if that is known: a write beyond that would end the program
-/// with a signal.
-fn file_size_limit<R: Files>(rt: &R) -> Option<u64> {
-    let mut text = [0; 2_048];
-    let count = fs::open(rt, LIMITS_PATH).ok()?.read(&mut text).ok()?;
-    let lines = str::from_utf8(text.get(..count)?).ok()?;
-    lines.lines().find_map(limit_on)
+/// Gives an open temporary file the permissions of the file that it is to replace. It must already have the same owner
+/// and group.
+fn copy_permissions<F: OpenFile>(file: &F, old: &Metadata) -> io::Result<()> {
+    let made = file.metadata()?;
+    if made.uid() != old.uid() || made.gid() != old.gid() {
+        return Err(io::Error::from(ErrorKind::PermissionDenied));
+    }
+    file.set_permissions(Permissions::from_mode(old.mode() & 0o7777))
+}
+
+/// Replaces the file at this path, if there is one, by a file with these bytes, which are on the disk by then.
+fn replace<R: Files>(
+    rt: &R,
+    alloc: Global,
+    path: &str,
+    old: &Option<Metadata>,
+    bytes: &[u8],
+) -> io::Result<()> {
+    let mode = if old.is_some() {
+        PRIVATE_MODE
+    } else {
+        NEW_MODE
+    };
+    let (mut file, mut beside) = make_beside(rt, alloc, path, mode)?;
+    if let Some(old) = old {
+        copy_permissions(&file, old)?;
+    }
+    file.write_all(bytes)?;
+    file.sync_all()?;
+    fs::rename(rt, &beside.name, path)?;
+    beside.name.clear();
+    Ok(())
+}
+
+/// Writes these bytes over the contents of an open file.
+fn overwrite<F: io::Write + Seek + OpenFile>(file: &mut F, bytes: &[u8]) -> io::Result<()> {
+    file.rewind()?;
+    file.write_all(bytes)?;
+    file.set_len(bytes.len() as u64)?;
+    file.sync_all()
+}
+
+/// Writes these bytes over the contents of the file with this name, which gets them back if that fails.
+fn write_in_place<R: Files>(rt: &R, alloc: Global, name: &str, bytes: &[u8]) -> io::Result<()> {
+    let mut file = OpenOptions::new().read(true).write(true).open(rt, name)?;
+    let mut old = Vec::new(alloc);
+    let _ = file.read_to_end(&mut old)?;
+    let written = overwrite(&mut file, bytes);
+    if written.is_err() {
+        let _ = overwrite(&mut file, &old);
+    }
+    written
+}
+
+/// Whether an error says that a file cannot be replaced, so that it is to be written in place: the folder cannot be
+/// written, the temporary file has another owner, or the file is a mount point.
+fn is_irreplaceable(error: &io::Error) -> bool {
+    matches!(
+        error.kind(),
+        ErrorKind::PermissionDenied | ErrorKind::ReadOnlyFilesystem | ErrorKind::ResourceBusy
+    )
 }
 
 /// A file for a result.
@@ -128,12 +196,14 @@ pub struct ResultFile<'r, R: Files> {
     name: &'r str,
     /// Its path after all symbolic links, if a temporary file may replace it.
     path: Option<String>,
-    /// The temporary file beside it, once that is open.
-    beside: Option<TemporaryFile<'r, R>>,
-    /// The open file that is written to, once there is one.
+    /// The open file, if it may not be replaced and is open already.
     file: Option<R::File>,
-    /// How many bytes may still be written.
-    remaining_bytes: u64,
+    /// What was written.
+    bytes: Vec<u8>,
+    /// Whether the result is written in one piece, which is put in its place at once.
+    pub(crate) comes_whole: bool,
+    /// Whether memory was refused, which is an error of `finish`, since a write has no such error.
+    lacks_memory: bool,
 }
 
 impl<'r, R: Files> ResultFile<'r, R> {
@@ -148,165 +218,115 @@ impl<'r, R: Files> ResultFile<'r, R> {
             alloc,
             name,
             path: place_of(rt, alloc, name)?,
-            beside: None,
             file: None,
-            remaining_bytes: u64::MAX,
+            bytes: Vec::new(alloc),
+            comes_whole: false,
+            lacks_memory: false,
         })
     }
 
-    /// Whether its name stands for something other than a plain file, such as a pipe. A name that nothing has yet
-    /// counts as a plain file.
-    fn is_device(&self) -> bool {
-        fs::metadata(self.rt, self.name).is_ok_and(|found| !found.is_file())
-    }
-
-    /// Creates or empties the file. If it is not a plain file, or may not be replaced, it stays open for writing.
+    /// Creates or empties the file. If it may not be replaced, it stays open for writing.
     ///
     /// # Errors
     ///
     /// Any error from creating the file.
     pub fn make_empty(&mut self) -> io::Result<()> {
         let file = fs::create(self.rt, self.name)?;
-        if self.path.is_none() || self.is_device() {
+        if self.path.is_none() {
             self.file = Some(file);
         }
         Ok(())
     }
 
-    /// Checks that the file can be created or written, and leaves it as it is. If it is not a plain file, or may not be
-    /// replaced, it is opened for writing.
+    /// Checks that the file can be created or written, and leaves it as it is. If it may not be replaced, it is opened
+    /// for writing.
     ///
     /// # Errors
     ///
     /// Any error from opening or creating the file, or from creating a temporary file beside it.
     pub fn check(&mut self) -> io::Result<()> {
         let Some(path) = &self.path else {
-            return self.open_in_place();
+            return self.make_empty();
         };
-        match fs::metadata(self.rt, path) {
-            Ok(found) if found.is_file() => {
-                let _file = OpenOptions::new().write(true).open(self.rt, path)?;
-                Ok(())
-            }
-            Ok(_) => self.open_in_place(),
-            Err(_) => {
-                let _made = make_beside(self.rt, self.alloc, path)?;
-                Ok(())
-            }
+        if old_file(self.rt, self.name)?.is_none() {
+            let _made = make_beside(self.rt, self.alloc, path, PRIVATE_MODE)?;
         }
-    }
-
-    /// Creates or empties the file, and writes directly to it from now on.
-    fn open_in_place(&mut self) -> io::Result<()> {
-        self.file = Some(fs::create(self.rt, self.name)?);
         Ok(())
     }
 
-    /// Opens a temporary file beside the file at this path, to which everything is written from now on. If there is a
-    /// file at the path that cannot be replaced, that file itself is opened.
-    fn open_beside(&mut self, path: &str) -> io::Result<()> {
-        let found = fs::metadata(self.rt, path).ok();
-        if found.is_some() {
-            let _file = OpenOptions::new().write(true).open(self.rt, path)?;
+    /// Puts what was written in the place of the plain file at this path, or of nothing.
+    fn put_at(&self, path: &str) -> io::Result<()> {
+        let (rt, alloc) = (self.rt, self.alloc);
+        let old = old_file(rt, self.name)?;
+        let replaced = replace(rt, alloc, path, &old, &self.bytes);
+        let is_refused = matches!(&replaced, Err(error) if is_irreplaceable(error));
+        if old.is_some() && is_refused {
+            return write_in_place(rt, alloc, self.name, &self.bytes);
         }
-        let (file, beside) = match make_beside(self.rt, self.alloc, path) {
-            Ok(made) => made,
-            Err(error) => {
-                // The program may not write to the folder of the file.
-                let is_forbidden = matches!(
-                    error.kind(),
-                    io::ErrorKind::PermissionDenied | io::ErrorKind::ReadOnlyFilesystem
-                );
-                return if is_forbidden && found.is_some() {
-                    self.open_in_place()
-                } else {
-                    Err(error)
-                };
-            }
-        };
-        if found.is_some_and(|found| copy_permissions(self.rt, &beside.name, &found).is_err()) {
-            return self.open_in_place();
-        }
-        self.file = Some(file);
-        self.beside = Some(beside);
-        Ok(())
+        replaced
     }
 
-    /// Opens the file that is written to, before its first piece, which has `count` bytes.
-    fn open(&mut self, count: u64) -> io::Result<()> {
-        let device = self.is_device();
-        if !device {
-            self.remaining_bytes = file_size_limit(self.rt).unwrap_or(u64::MAX);
+    /// Notes that memory was refused, if that is the error. Any other error is returned.
+    fn note_memory(&mut self, done: io::Result<()>) -> io::Result<()> {
+        if matches!(&done, Err(error) if error.kind() == ErrorKind::OutOfMemory) {
+            self.lacks_memory = true;
+            return Ok(());
         }
-        if count > self.remaining_bytes {
-            return Err(io::Error::from(io::ErrorKind::FileTooLarge));
-        }
-        match self.path.take() {
-            Some(path) if !device => {
-                let opened = self.open_beside(&path);
-                self.path = Some(path);
-                opened
-            }
-            _ => self.open_in_place(),
-        }
+        done
     }
 
-    /// Puts the completely written result in its place. If nothing was written, nothing is done. If the result can be
-    /// neither moved nor copied there, the temporary file stays, since the copy may have overwritten the old contents.
+    /// Puts the completely written result in its place. If nothing was written, nothing is done.
     ///
     /// # Errors
     ///
-    /// Any error from copying the result.
+    /// Any error from writing the result, and `OutOfMemory` if memory was refused.
     pub fn finish(&mut self) -> io::Result<()> {
-        let (Some(path), Some(beside)) = (&self.path, &mut self.beside) else {
-            return Ok(());
-        };
-        let is_moved = fs::rename(self.rt, &beside.name, path).is_ok();
-        if is_moved {
-            beside.name.clear();
+        if self.lacks_memory {
+            return Err(no_memory(AllocError));
+        }
+        if self.bytes.is_empty() {
             return Ok(());
         }
-        let copied = fs::copy(self.rt, &beside.name, path);
-        if copied.is_err() {
-            beside.name.clear();
+        if let Some(path) = &self.path {
+            return self.put_at(path);
         }
-        let _count = copied?;
-        Ok(())
+        if self.file.is_none() {
+            self.make_empty()?;
+        }
+        match &mut self.file {
+            Some(file) => file.write_all(&self.bytes),
+            None => Ok(()),
+        }
     }
 
-    /// Puts the completely written result in its place. If nothing was written, the file is created or emptied.
+    /// Creates or empties the file if nothing was written.
     ///
     /// # Errors
     ///
-    /// As for `finish` and `make_empty`.
-    pub fn finish_or_empty(&mut self) -> io::Result<()> {
-        if self.file.is_none() {
+    /// As for `make_empty`, and `OutOfMemory` if memory was refused for what was written.
+    pub fn empty_if_unwritten(&mut self) -> io::Result<()> {
+        if self.lacks_memory {
+            return Err(no_memory(AllocError));
+        }
+        if self.bytes.is_empty() && self.file.is_none() {
             return self.make_empty();
         }
-        self.finish()
+        Ok(())
     }
 }
 
 impl<R: Files> io::Write for ResultFile<'_, R> {
     fn write(&mut self, buf: &[u8]) -> io::Result<usize> {
-        let count = buf.len() as u64;
-        if self.file.is_none() {
-            self.open(count)?;
+        let kept = self.bytes.extend_from_slice(buf).map_err(no_memory);
+        self.note_memory(kept)?;
+        if self.comes_whole {
+            let done = self.finish();
+            self.note_memory(done)?;
         }
-        if count > self.remaining_bytes {
-            return Err(io::Error::from(io::ErrorKind::FileTooLarge));
-        }
-        self.remaining_bytes -= count;
-        match &mut self.file {
-            Some(file) => file.write(buf),
-            None => Ok(0),
-        }
+        Ok(buf.len())
     }
 
     fn flush(&mut self) -> io::Result<()> {
-        match &mut self.file {
-            Some(file) => file.flush(),
-            None => Ok(()),
-        }
+        Ok(())
     }
 }

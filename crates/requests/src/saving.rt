@@ -1,7 +1,8 @@
 //! The files that `verify --save` writes, and when the answer is printed.
 
+use crate::faults::unwritten_file;
 use crate::files::{is_foreign, write_result};
-use crate::source_faults::report_file_fault;
+use crate::telling::{tell, tell_lines};
 use command_line::{
     CERTIFICATE_ENDING, DECLARATION_ENDING, Destination, EVENTS_ENDING, SaveOptions,
 };
@@ -36,8 +37,32 @@ fn report_kept_file<R: Eprint>(rt: &R, alloc: Global, path: &str) -> Status {
     Status::Usage
 }
 
-/// Writes these texts to their files, or none of them if one would replace a file that the command did not write.
-/// Returns the given status, or the status of the problem that was reported.
+/// Reports the fault of a file that cannot be written, and returns the status of the fault.
+fn report_unwritten<R: Files + Eprint>(rt: &R, alloc: Global, fault: Fault, path: &str) -> Status {
+    let status = tell(rt, fault);
+    if status == Status::Device {
+        tell_lines(rt, &unwritten_file(rt, alloc, path));
+    }
+    status
+}
+
+/// The first of these texts whose file exists and was not written by the command, if there is one.
+fn first_foreign<'s, R: Files + Input>(
+    rt: &R,
+    alloc: Global,
+    saved: &'s [NamedText],
+) -> Option<&'s NamedText> {
+    for text in saved {
+        if is_foreign(rt, alloc, &text.path, CERTIFICATE_PREFIX, &text.text) {
+            return Some(text);
+        }
+    }
+    None
+}
+
+/// Writes these texts to their files, or none of them if one would replace a file that the command did not write. That is
+/// looked at again before each file, since a link may make one of them of two. Returns the given status, or the status of
+/// the problem that was reported.
 fn save_all<R: Files + Input + Print + Eprint>(
     rt: &R,
     alloc: Global,
@@ -46,19 +71,19 @@ fn save_all<R: Files + Input + Print + Eprint>(
     status: Status,
 ) -> Status {
     let forced = save.is_some_and(|options| options.forced);
-    for text in saved {
-        if !forced && is_foreign(rt, alloc, &text.path, CERTIFICATE_PREFIX, &text.text) {
-            return report_kept_file(rt, alloc, &text.path);
+    for (index, text) in saved.iter().enumerate() {
+        let rest = saved.get(index..).unwrap_or(&[]);
+        let kept = if forced {
+            None
+        } else {
+            first_foreign(rt, alloc, rest)
+        };
+        if let Some(kept) = kept {
+            return report_kept_file(rt, alloc, &kept.path);
         }
-    }
-    for text in saved {
-        if let Err(fault) = write_result(
-            rt,
-            alloc,
-            Destination::MadeLast(text.path.as_str()),
-            &text.text,
-        ) {
-            return report_file_fault(rt, alloc, fault, &text.path, "cannot be created or written");
+        let out = Destination::MadeLast(text.path.as_str());
+        if let Err(fault) = write_result(rt, alloc, out, &text.text) {
+            return report_unwritten(rt, alloc, fault, &text.path);
         }
     }
     status

@@ -1,6 +1,6 @@
 //! Messages about the faults of a source.
 
-use crate::telling::{tell, tell_with};
+use crate::telling::tell;
 use command_parts::status::{Fault, Status};
 use command_parts::visible::visible_text;
 use instruct::Profile;
@@ -44,52 +44,6 @@ pub fn input_name<'n>(name: &'n str) -> &'n str {
 /// An output as it is named in a sentence.
 pub fn output_name<'n>(name: &'n str) -> &'n str {
     if name == "-" { "standard output" } else { name }
-}
-
-/// The name of the part that could not be opened, if `opened` parts were opened before it.
-pub fn unopened_part<'n>(names: &'n [&'n str], opened: usize) -> &'n str {
-    match names.get(opened) {
-        Some(name) => input_name(name),
-        None => "a source",
-    }
-}
-
-/// Writes the line of a fault to standard error and, if a device failed, a line below it that says which file it was.
-/// Returns the status of the fault.
-pub fn report_file_fault<R: Eprint>(
-    rt: &R,
-    alloc: Global,
-    fault: Fault,
-    name: &str,
-    problem: &str,
-) -> Status {
-    let status = tell(rt, fault);
-    if status != Status::Device {
-        return status;
-    }
-    if let Ok(name) = visible_text(alloc, name) {
-        let _ = eprintln!(rt; "{name} {problem}");
-    }
-    status
-}
-
-/// Does the same if that is requested; otherwise the fault is returned.
-///
-/// # Errors
-///
-/// The fault, unless it is reported.
-pub fn report_if<R: Eprint>(
-    rt: &R,
-    alloc: Global,
-    is_requested: bool,
-    fault: Fault,
-    name: &str,
-    problem: &str,
-) -> Result<Status, Fault> {
-    if !is_requested {
-        return Err(fault);
-    }
-    Ok(report_file_fault(rt, alloc, fault, name, problem))
 }
 
 /// Writes the line of a fault about a size to standard error, and below it what is too large: the number of parts, or

@@ -15,7 +15,7 @@ use std::rt::Files;
 
 /// The page about what a search had found when it got stuck, with what the source, if there is one, says about the
 /// addresses.
-fn stuck_page<R: Files>(
+fn stuck_page<R: Files + Input>(
     rt: &R,
     alloc: Global,
     files: &CommandFiles<'_, '_>,
@@ -45,7 +45,7 @@ fn stuck_page<R: Files>(
 ///
 /// `Device` if the file cannot be written, and `NoMemory` if memory was refused.
 #[inline(never)]
-pub fn write_stuck_report<R: Files + Print>(
+pub fn write_stuck_report<R: Files + Input + Print>(
     rt: &R,
     alloc: Global,
     files: &CommandFiles<'_, '_>,

@@ -19,6 +19,7 @@ use requests::of_files::sources::{Product, translate_to};
 use requests::of_files::tapes::{dump_from, run_from, source_from};
 use requests::of_machine::answer_sourced;
 use requests::of_programs::answer_program;
+use requests::source_faults::{name_slices, visible_names};
 use requests::telling::{tell, tell_lines, tell_misuse};
 use std::alloc::{AllocError, Global};
 use std::fmt::Write;
@@ -71,7 +72,7 @@ pub fn exit_status<R: Env + Files + Input + Print + Eprint + AllocGlobal>(
     };
     match request {
         Ok(line) => carry_out(rt, alloc, &line, at_terminal).code(),
-        Err(refused) => refuse(rt, alloc, refused).code(),
+        Err(refused) => refuse_shown(rt, alloc, refused, &given).code(),
     }
 }
 
@@ -128,6 +129,27 @@ fn carry_out<R: Files + Input + Print + Eprint>(
             tell_lines(rt, &hint_line(rt, alloc, &fault, files));
             status
         }
+    }
+}
+
+/// Reports why a command line of these words cannot be used. The words are read once more as they are shown, since the
+/// report may quote them, and a line feed in one of them would begin a line of its own.
+#[inline(never)]
+fn refuse_shown<R: Print + Eprint>(
+    rt: &R,
+    alloc: Global,
+    refused: CommandLineFault,
+    given: &[String],
+) -> Status {
+    let Ok(names) = name_slices(alloc, given) else {
+        return tell(rt, Fault::NoMemory);
+    };
+    let Ok(words) = visible_names(alloc, &names) else {
+        return tell(rt, Fault::NoMemory);
+    };
+    match parse_arguments(alloc, words.as_slice()) {
+        Ok(_) => refuse(rt, alloc, refused),
+        Err(shown) => refuse(rt, alloc, shown),
     }
 }
 

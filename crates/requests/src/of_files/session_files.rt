@@ -2,13 +2,13 @@
 
 ghost use Rattle.std.specs.Prelude.{◌≡◌, false};
 
-use crate::files::open_input;
+use crate::files::{open_input, write_fault};
 use crate::of_machine::places::stops_of;
 use crate::replacing::ResultFile;
 use crate::standard_error::{NullSink, open_input_if, report_to, tell_to};
 use command_line::{Interrupt, Session, TeletypeSession};
 use command_parts::options::SummaryForm;
-use command_parts::status::{DeviceFault, Fault, Status};
+use command_parts::status::{Fault, Status};
 use command_parts::visible::visible_text;
 use either::Either;
 use machine_commands::interrupted::{InterruptibleKeys, OperatorPresence};
@@ -17,8 +17,8 @@ use machine_commands::teletype::{Typist, teletype};
 use std::alloc::{AllocError, Global};
 use std::io::{self, Printer};
 use std::rt::Files;
+use streams::ByteSource;
 use streams::standard::{StdReader, StdWriter};
-use streams::{ByteSink, ByteSource};
 
 /// Where the punched bytes go: to a file, or nowhere.
 type Punch<'r, R> = Either<ResultFile<'r, R>, NullSink>;
@@ -34,33 +34,25 @@ fn open_punch<'r, R: Files>(
         return Ok(Either::Right(NullSink));
     };
     let mut file = ResultFile::new(rt, alloc, name)?;
+    file.comes_whole = true;
     match file.check() {
         Ok(()) => Ok(Either::Left(file)),
-        Err(_) => Err(Fault::Device(DeviceFault::Write)),
+        Err(error) => Err(write_fault(&error)),
     }
 }
 
-/// Puts what was punched in its place. It is written in one piece before the summary, so it is complete even if the
-/// summary cannot be written. A run that punched nothing leaves an empty file.
+/// Leaves an empty file after a run that punched nothing. What was punched is in its place already: it is written in one
+/// piece before the summary, so it is complete even if the summary cannot be written.
 fn finish_punch<R: Files>(
     punch: &mut Punch<'_, R>,
-    failed: bool,
     answer: Result<Status, Fault>,
 ) -> Result<Status, Fault> {
-    let Either::Left(file) = punch else {
-        return answer;
-    };
-    if failed {
-        return answer;
+    let status = answer?;
+    if let Either::Left(file) = punch {
+        file.empty_if_unwritten()
+            .map_err(|error| write_fault(&error))?;
     }
-    let done = match answer {
-        Ok(_) => file.finish_or_empty(),
-        Err(_) => file.finish(),
-    };
-    match done {
-        Ok(()) => answer,
-        Err(_) => Err(Fault::Device(DeviceFault::Write)),
-    }
+    Ok(status)
 }
 
 /// Where the characters that a session prints go: to standard output, or nowhere.
@@ -128,8 +120,7 @@ fn hold_session_with<R: Files + Print + Eprint, S: ByteSource, F: ByteSource, K:
         form,
         &mut outputs,
     );
-    let failed = outputs.punch.failed();
-    finish_punch(&mut punch, failed, answer)
+    finish_punch(&mut punch, answer)
 }
 
 /// Runs the tape of these frames with an operator. The reader's frames are opened first and then the keys; after that,
@@ -227,8 +218,7 @@ fn hold_typed<
     let stopping = stops_of(&session.stopping);
     let (stops, last) = (&stopping.stops, stopping.last);
     let answer = teletype(alloc, frames, &mut typist, stops, last, form, &mut outputs);
-    let failed = outputs.punch.failed();
-    finish_punch(&mut punch, failed, answer)
+    finish_punch(&mut punch, answer)
 }
 
 /// Holds a session at the teletype with the tape of these frames: keys come from standard input, what is printed goes

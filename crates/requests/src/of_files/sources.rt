@@ -2,61 +2,16 @@
 
 use crate::files::{ResultSink, finish, open_output, open_parts};
 use crate::hints::{CommandFiles, hint_line};
-use crate::source_faults::{
-    NO_WORD, input_name, name_slices, output_name, report_file_fault, report_if, report_size_fault,
-    unopened_part, visible_names,
-};
-use crate::telling::{tell, tell_lines, tell_with};
+use crate::source_faults::{name_slices, report_size_fault, visible_names};
+use crate::telling::{tell_lines, tell_with};
 use command_line::Destination;
-use command_parts::status::{DeviceFault, Fault, Status};
+use command_parts::status::{Fault, Status};
 use instruct::Profile;
+use pal_asm::PalFault;
 use source_commands::assembling::{assemble, list};
 use std::alloc::Global;
 use std::rt::Files;
-use streams::ByteSource;
 use streams::standard::StdWriter;
-
-/// The name of the first part that could not be read.
-fn failed_part<'n, S: ByteSource>(names: &'n [&'n str], parts: &[S]) -> &'n str {
-    for (name, part) in names.iter().zip(parts) {
-        if part.failed() {
-            return input_name(name);
-        }
-    }
-    "a source"
-}
-
-/// Writes the line of a fault to standard error, and below it what is wrong: for a fault of the source, these lines.
-/// `shown` are the names of the parts as they are shown.
-fn report_fault<R: Eprint, S: ByteSource>(
-    rt: &R,
-    alloc: Global,
-    fault: Fault,
-    files: &CommandFiles<'_, '_>,
-    shown: &[&str],
-    parts: &[S],
-    lines: &str,
-) -> Status {
-    match fault {
-        Fault::Source(fault) if fault.line == 0 => report_size_fault(rt, alloc, fault, shown),
-        Fault::Source(_) => tell_with(rt, fault, lines),
-        Fault::EmptyImage => tell_with(rt, fault, NO_WORD),
-        Fault::Device(DeviceFault::Read) => {
-            report_file_fault(
-                rt,
-                alloc,
-                fault,
-                failed_part(shown, parts),
-                "cannot be read",
-            )
-        }
-        Fault::Device(DeviceFault::Write) => {
-            let name = output_name(files.names.output.unwrap_or("-"));
-            report_file_fault(rt, alloc, fault, name, "cannot be written")
-        }
-        _ => tell(rt, fault),
-    }
-}
 
 /// What is made of a source.
 #[derive(Clone, Copy)]
@@ -75,8 +30,26 @@ fn names_if<'n, 's>(is_needed: bool, names: &'n [&'s str]) -> Option<&'n [&'s st
     if is_needed { Some(names) } else { None }
 }
 
-/// Makes a tape or a listing of the source whose parts are in the files of a command. If a fault is to be explained, it
-/// is reported, and its status is returned, which is never `Done`.
+/// Reports a fault of the source whose parts have these names, as they are shown, with these lines below it.
+fn report_fault<R: Files + Input + Eprint>(
+    rt: &R,
+    alloc: Global,
+    fault: PalFault,
+    files: &CommandFiles<'_, '_>,
+    shown: &[&str],
+    lines: &str,
+) -> Status {
+    let status = if fault.line == 0 {
+        report_size_fault(rt, alloc, fault, shown)
+    } else {
+        tell_with(rt, Fault::Source(fault), lines)
+    };
+    tell_lines(rt, &hint_line(rt, alloc, &Fault::Source(fault), files));
+    status
+}
+
+/// Makes a tape or a listing of the source whose parts are in the files of a command. A fault of the source that is to be
+/// explained is reported, and its status is returned, which is never `Done`.
 fn translate<R: Files + Input + Print + Eprint>(
     rt: &R,
     alloc: Global,
@@ -88,10 +61,7 @@ fn translate<R: Files + Input + Print + Eprint>(
     let shown = visible_names(alloc, files.parts)?;
     let shown = name_slices(alloc, &shown)?;
     let mut parts = Vec::new(alloc);
-    if let Err(fault) = open_parts(rt, files.parts, &mut parts) {
-        let name = unopened_part(&shown, parts.len());
-        return report_if(rt, alloc, files.explained, fault, name, "cannot be opened");
-    }
+    open_parts(rt, files.parts, &mut parts)?;
     let names = names_if(files.explained, &shown);
     let mut lines = String::new(alloc);
     let mut out = StdWriter::new(&mut *file);
@@ -103,17 +73,13 @@ fn translate<R: Files + Input + Print + Eprint>(
             )
         }
     };
-    match answer {
-        Ok(status) => Ok(status),
-        Err(fault) => {
-            if !files.explained {
-                return Err(fault);
-            }
-            let status = report_fault(rt, alloc, fault, files, &shown, &parts, &lines);
-            tell_lines(rt, &hint_line(rt, alloc, &fault, files));
-            Ok(status)
+    match &answer {
+        Err(Fault::Source(fault)) if files.explained => {
+            return Ok(report_fault(rt, alloc, *fault, files, &shown, &lines));
         }
+        _ => {}
     }
+    answer
 }
 
 /// Makes a tape or a listing of the source whose parts are in the files of a command. The file for it is opened first.
@@ -121,7 +87,6 @@ fn translate<R: Files + Input + Print + Eprint>(
 /// # Errors
 ///
 /// As for `assemble` and `list`, and `Device` if a file cannot be opened, created or put in its place.
-/// If an explanation is requested, these faults are reported instead, and only `NoMemory` is returned.
 #[inline(never)]
 pub fn translate_to<R: Files + Input + Print + Eprint>(
     rt: &R,
@@ -131,19 +96,10 @@ pub fn translate_to<R: Files + Input + Print + Eprint>(
     profile: Profile,
     out: Destination<'_>,
 ) -> Result<Status, Fault> {
-    let name = output_name(out.name());
-    let mut file = match open_output(rt, alloc, out) {
-        Ok(file) => file,
-        Err(fault) => {
-            return report_if(rt, alloc, files.explained, fault, name, "cannot be created");
-        }
-    };
+    let mut file = open_output(rt, alloc, out)?;
     let status = translate(rt, alloc, files, product, profile, &mut file)?;
-    if status != Status::Done {
-        return Ok(status);
+    if status == Status::Done {
+        return finish(&mut file, status);
     }
-    match finish(&mut file, status) {
-        Ok(status) => Ok(status),
-        Err(fault) => report_if(rt, alloc, files.explained, fault, name, "cannot be written"),
-    }
+    Ok(status)
 }

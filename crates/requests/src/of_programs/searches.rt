@@ -73,7 +73,7 @@ fn lists_reads(text: &[u8]) -> bool {
         .any(|line| line.trim_ascii().starts_with(b"read"))
 }
 
-impl<'x, R: Files + Print + Eprint, I: Read + Drop> OpenProgram<'x, '_, R, I> {
+impl<'x, R: Files + Input + Print + Eprint, I: Read + Drop> OpenProgram<'x, '_, R, I> {
     /// Reports on standard error why a search is stuck, and writes a report on its draft, each if it is requested.
     #[inline(never)]
     fn report_stuck_search(

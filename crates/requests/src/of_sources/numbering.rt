@@ -1,7 +1,7 @@
 //! Numbers sources, and reports why they or their declarations are refused. This is tested, not proved.
 
 use crate::file_kinds::Kind;
-use crate::hints::CommandFiles;
+use crate::hints::{CommandFiles, hint};
 use crate::of_sources::part_lines::DeclarationLine;
 use crate::of_sources::reading::{DeclarationUse, SourceInput, byte_slices, says_something};
 use crate::source_faults::{push_source_faults, report_size_fault};
@@ -102,7 +102,7 @@ fn report_place_fault<R: Eprint>(
         tell_lines(rt, &lines);
     }
     if let Some(name) = files.names.declaration {
-        tell_lines(rt, &files.hint(alloc, Kind::Declaration, name, text));
+        tell_lines(rt, &hint(alloc, Kind::Declaration, name, text));
     }
     Ok(Status::Refused)
 }
@@ -129,7 +129,7 @@ fn report_refused_source<R: Eprint>(
     };
     let index = fault.part.wrapping_sub(1);
     if let (Some(name), Some(part)) = (names.get(index), parts.get(index)) {
-        tell_lines(rt, &files.hint(alloc, Kind::Source, name, part));
+        tell_lines(rt, &hint(alloc, Kind::Source, name, part));
     }
     status
 }

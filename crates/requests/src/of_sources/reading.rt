@@ -2,7 +2,6 @@
 
 use crate::files::open_input;
 use crate::hints::CommandFiles;
-use crate::source_faults::{report_if, unopened_part};
 use crate::telling::tell_misuse;
 use command_line::{Misuse, ProgramRequest, Task};
 use command_parts::status::{Fault, Status};
@@ -70,20 +69,19 @@ pub struct SourceInput {
     pub origin: DeclarationOrigin,
 }
 
-/// Reads the parts of a source in order, up to the first that cannot be read, and appends them to the parts that were
-/// already read.
+/// Reads the parts of a source in order.
 fn read_parts<R: Files + Input>(
     rt: &R,
     alloc: Global,
     names: &[&str],
-    parts: &mut Vec<Vec<u8>>,
-) -> Result<(), Fault> {
+) -> Result<Vec<Vec<u8>>, Fault> {
+    let mut parts = Vec::new(alloc);
     for name in names {
         let mut input = open_input(rt, name)?;
         let part = read_at_most(alloc, &mut input, PART_READ_LIMIT)?;
         parts.push(part).map_err(|_| Fault::NoMemory)?;
     }
-    Ok(())
+    Ok(parts)
 }
 
 /// The bytes of the parts, as slices.
@@ -147,12 +145,12 @@ fn read_declaration<R: Files + Input>(
     Ok((text, DeclarationOrigin::File))
 }
 
-/// Reads a source and its declaration, or returns the status of the problem that was reported: a part cannot be read,
-/// or a start or a machine is named although there is a declaration.
+/// Reads a source and its declaration, or returns the status of the problem that was reported: a start or a machine is
+/// named although there is a declaration.
 ///
 /// # Errors
 ///
-/// `Device` if a file cannot be opened or read and this was not reported, and `NoMemory`.
+/// `Device` if a file cannot be opened or read, and `NoMemory` if memory was refused.
 #[inline(never)]
 pub(crate) fn read_source<R: Files + Input + Eprint>(
     rt: &R,
@@ -160,12 +158,7 @@ pub(crate) fn read_source<R: Files + Input + Eprint>(
     files: &CommandFiles<'_, '_>,
     declared: DeclarationUse,
 ) -> Result<Result<SourceInput, Status>, Fault> {
-    let mut parts = Vec::new(alloc);
-    if let Err(fault) = read_parts(rt, alloc, files.parts, &mut parts) {
-        let name = unopened_part(files.parts, parts.len());
-        let problem = "cannot be opened or read";
-        return Ok(Err(report_if(rt, alloc, files.explained, fault, name, problem)?));
-    }
+    let parts = read_parts(rt, alloc, files.parts)?;
     let (text, origin) = read_declaration(rt, alloc, files, declared, &parts)?;
     match declared {
         DeclarationUse::Proposable {

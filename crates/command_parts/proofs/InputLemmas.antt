@@ -1,5 +1,5 @@
 -- Texts that were read up to a limit, and what they hold.
-use Rattle.std.proofs.Common.{ℕ, ◌≡◌, ◌+◌, ◌<◌, Bool, List, [], refl, length, take, ◌∙◌, ap, subst, arith, inl, inr}
+use Rattle.std.proofs.Common.{ℕ, ◌≡◌, ◌+◌, ◌<◌, Bool, List, [], refl, length, take, sym, ◌∙◌, ap, subst, arith, inl, inr}
 use Rattle.std.specs.Prelude.{◌∷◌, Option, Some, None, IfSome}
 use Rattle.std.specs.Io.KnownBytes.{Consumes}
 use Rattle.std.proofs.lemmas.Bool.{cases_lt}
@@ -9,10 +9,11 @@ use Rattle.peripherals.specs.EventText.{Spells, FailsAtLine as EventsFailAtLine,
 use Rattle.peripherals.specs.declared.event_text.EventsFault.{EventsFault}
 use Rattle.peripherals.specs.declared.event_text.EventsFault.TheVariants as events_fault
 use Rattle.declaration.specs.Declaration.{Declaration}
-use Rattle.declaration.specs.Text.{Declares, FailsAtLine, FailsAtRule, Fails as FailsAsDeclaration}
+use Rattle.declaration.specs.Text.{Declares, HasFault, Fails as FailsAsDeclaration}
 use Rattle.declaration.specs.declared.DeclarationFault.{DeclarationFault}
 use Rattle.declaration.specs.declared.DeclarationFault.TheVariants as fault
 use Rattle.command_parts.specs.Faults.{IsEventsFault, IsEventsInputFault, IsDeclarationFault, IsDeclarationInputFault, fault_of_events, fault_of_declaration}
+use Rattle.declaration.proofs.AnswerLemmas.{declares_short, too_long}
 use Rattle.streams.specs.Taking.{StandsAt}
 use Rattle.streams.specs.Text.{text_lines}
 use Rattle.command_parts.specs.Inputs.{HasCome, HasEvents, HasDeclaration, TakesAtMost, input}
@@ -47,27 +48,17 @@ events_fault_is events_fault.TooMany failed had left text taken is fails = all_o
 events_fault_is (events_fault.BadLine n) failed had left text taken is fails = all_or_more (λ bytes. EventsFailAtLine bytes (events_fault.BadLine n)) had text 65536 is fails (λ bytes long more f. absurd (let short = f.good.short in omega (arith, short, long)))
 
 pub has_declaration : (had : Option (List ℕ)) (text : List ℕ) (d : Declaration) → IfSome had (λ bytes. text ≡ take 16385 bytes) → Declares text d → HasDeclaration had d
-has_declaration had text d is declares = all_or_more (λ bytes. Declares bytes d) had text 16384 is declares (λ bytes long more s. absurd (let short = s.good.short in omega (arith, short, long)))
+has_declaration had text d is declares = all_or_more (λ bytes. Declares bytes d) had text 16384 is declares (λ bytes long more s. absurd (let short = declares_short text d s in omega (arith, short, long)))
 
-at_line : (fault : DeclarationFault) (had : Option (List ℕ)) (text : List ℕ) → IfSome had (λ bytes. text ≡ take 16385 bytes) → FailsAtLine text fault → IfSome had (λ bytes. FailsAtLine bytes fault)
-at_line fault had text is fails = all_or_more (λ bytes. FailsAtLine bytes fault) had text 16384 is fails (λ bytes long more f. absurd (let short = f.stands.short in omega (arith, short, long)))
-
-at_rule : (fault : DeclarationFault) (had : Option (List ℕ)) (text : List ℕ) → IfSome had (λ bytes. text ≡ take 16385 bytes) → FailsAtRule text fault → IfSome had (λ bytes. FailsAtRule bytes fault)
-at_rule fault had text is fails = all_or_more (λ bytes. FailsAtRule bytes fault) had text 16384 is fails (λ bytes long more f. absurd (let short = f.good.short in omega (arith, short, long)))
+-- bytes have the fault of as many of them as were read: where these are too long, so are all
+same_fault : (first : DeclarationFault) (had : Option (List ℕ)) (text : List ℕ) → IfSome had (λ bytes. text ≡ take 16385 bytes) → HasFault text first → IfSome had (λ bytes. HasFault bytes first)
+same_fault first had text is fails =
+    all_or_more (λ bytes. HasFault bytes first) had text 16384 is fails (λ bytes long more f. record { is = too_long bytes more ∙ (sym (too_long text long) ∙ f.is) })
 
 pub declaration_fault_is : (fault : DeclarationFault) (failed : Bool) (had left : Option (List ℕ)) (text : List ℕ) → Consumes had left text → IfSome had (λ bytes. text ≡ take 16385 bytes) → FailsAsDeclaration text fault →
     IsDeclarationInputFault (input failed had left) (fault_of_declaration fault)
-declaration_fault_is fault.NoMemory failed had left text taken is fails = has_come failed had left text taken (no_line text fails.stands.before fails.line fails.number fails.stands.stands)
-declaration_fault_is fault.TooMany failed had left text taken is fails = all_or_more (λ bytes. IsDeclarationFault bytes fault.TooMany) had text 16384 is fails (λ bytes long more f. inl more)
-declaration_fault_is (fault.BadLine n) failed had left text taken is fails = at_line (fault.BadLine n) had text is fails
-declaration_fault_is (fault.TwoStarts n) failed had left text taken is fails = at_line (fault.TwoStarts n) had text is fails
-declaration_fault_is (fault.TwoProfiles n) failed had left text taken is fails = at_line (fault.TwoProfiles n) had text is fails
-declaration_fault_is fault.NoStart failed had left text taken is fails = at_rule fault.NoStart had text is fails
-declaration_fault_is (fault.Overlap a) failed had left text taken is fails = at_rule (fault.Overlap a) had text is fails
-declaration_fault_is (fault.EntryInAutoIndex a) failed had left text taken is fails = at_rule (fault.EntryInAutoIndex a) had text is fails
-declaration_fault_is fault.StartNotInMain failed had left text taken is fails = at_rule fault.StartNotInMain had text is fails
-declaration_fault_is (fault.HaltNotInBody a) failed had left text taken is fails = at_rule (fault.HaltNotInBody a) had text is fails
-declaration_fault_is (fault.Misplaced a) failed had left text taken is fails = at_rule (fault.Misplaced a) had text is fails
+declaration_fault_is fault.NoMemory failed had left text taken is fails = has_come failed had left text taken (no_line text fails.before fails.line fails.number fails.stands)
+declaration_fault_is first failed had left text taken is fails = same_fault first had text is fails
 
 -- of a source that isn't read nothing is taken
 pub takes_no_text : (most : ℕ) (had : Option (List ℕ)) → TakesAtMost most had had

@@ -3,11 +3,12 @@ use Rattle.std.proofs.Common.{ℕ, ◌≡◌, ◌<◌, ◌≤◌, ◌+◌, ◌==
 use Rattle.std.specs.Prelude.{nat_le, if◌then◌else◌}
 use Rattle.std.specs.List.{list_any, count_by}
 use Rattle.std.proofs.lemmas.Bool.{cases_Bool, and_parts, eqb-true, leb-true, leb-false, eq-eqb}
-use Rattle.wordset.specs.Words.{Words, HasNoneFrom}
+use Rattle.wordset.specs.Words.{HasNoneFrom}
 use Rattle.processor.specs.Machine.{is_auto_index}
-use Rattle.declaration.specs.Declaration.{Routine, Declaration, IsDeclared}
+use Rattle.declaration.specs.Declaration.{Routine, IsDeclared}
 use Rattle.declaration.specs.Lines.{Subroutine}
-use Rattle.declaration.specs.Text.{Contents, Says, KeepsRules, is_entry, in_bodies, in_two_bodies, is_entry_twice, bodies_at, overlaps, halt_outside, is_named_entry, is_held, misplaced}
+use Rattle.declaration.specs.Text.{Contents, is_entry, in_bodies, bodies_at, overlaps, halt_outside, is_named_entry, misplaced, declaration_of}
+use Rattle.declaration.specs.Drafts.{KeepsRules, entries_at}
 use Rattle.declaration.proofs.RuleLemmas.{count-cons, some_counted}
 
 -- All cells that are spoken of are words.
@@ -92,17 +93,18 @@ one_body a e f (r ∷ rs) one at also = elim (cases_Bool (r.body a)) [
 
 -- ---- the rules, cell by cell
 
-not_two : (c : Contents) → HasNoneFrom 0 (overlaps c) → (a : ℕ) → a < 4096 → in_two_bodies c a ≡ false
-not_two c apart a h = or_no_first (in_two_bodies c a) _ (or_no_first _ _ (or_no_first _ _ (or_no_first _ _ (apart a (omega arith) h))))
+not_two : (c : Contents) → HasNoneFrom 0 (overlaps c) → (a : ℕ) → a < 4096 → nat_le 2 (bodies_at c a) ≡ false
+not_two c apart a h = or_no_first (nat_le 2 (bodies_at c a)) _ (or_no_first _ _ (or_no_first _ _ (or_no_first _ _ (apart a (omega arith) h))))
 
 entry_outside : (c : Contents) → HasNoneFrom 0 (overlaps c) → (a : ℕ) → a < 4096 → is_entry c a ≡ true → in_bodies c a ≡ false
-entry_outside c apart a h is = and_no (is_entry c a) (in_bodies c a) (or_no_second (in_two_bodies c a) _ (or_no_first _ _ (or_no_first _ _ (or_no_first _ _ (apart a (omega arith) h))))) is
+entry_outside c apart a h is = and_no (is_entry c a) (in_bodies c a) (or_no_second (nat_le 2 (bodies_at c a)) _ (or_no_first _ _ (or_no_first _ _ (or_no_first _ _ (apart a (omega arith) h))))) is
 
 entry_fixed : (c : Contents) → HasNoneFrom 0 (overlaps c) → (a : ℕ) → a < 4096 → is_entry c a ≡ true → c.variable a ≡ false
-entry_fixed c apart a h is = and_no (is_entry c a) (c.variable a) (or_no_second (in_two_bodies c a || is_entry c a && in_bodies c a) _ (or_no_first _ _ (or_no_first _ _ (apart a (omega arith) h)))) is
+entry_fixed c apart a h is = and_no (is_entry c a) (c.variable a) (or_no_second (nat_le 2 (bodies_at c a) || is_entry c a && in_bodies c a) _ (or_no_first _ _ (or_no_first _ _ (apart a (omega arith) h)))) is
 
 halts_differ : (c : Contents) → HasNoneFrom 0 (overlaps c) → (a : ℕ) → a < 4096 → (c.stop a && c.pause a) ≡ false
-halts_differ c apart a h = or_no_second (in_two_bodies c a || is_entry c a && in_bodies c a || is_entry c a && c.variable a || is_entry_twice c a) _ (apart a (omega arith) h)
+halts_differ c apart a h =
+    or_no_second (nat_le 2 (bodies_at c a) || is_entry c a && in_bodies c a || is_entry c a && c.variable a || nat_le 2 (entries_at c a)) _ (apart a (omega arith) h)
 
 and_turned : (a b : Bool) → (a && b) ≡ false → b ≡ true → a ≡ false
 and_turned true b e h = absurd (cc)
@@ -113,7 +115,7 @@ not_false true e = refl
 not_false false e = absurd (cc)
 
 -- of two bodies the one is main's
-main_apart : (c : Contents) → (a e : ℕ) → in_two_bodies c a ≡ false → c.main a ≡ true → list_any (λ r. r.entry == e && r.body a) c.routines ≡ true → ⊥
+main_apart : (c : Contents) → (a e : ℕ) → nat_le 2 (bodies_at c a) ≡ false → c.main a ≡ true → list_any (λ r. r.entry == e && r.body a) c.routines ≡ true → ⊥
 main_apart c a e one main at =
     let other : list_any (λ r. r.body a) c.routines ≡ true = (any_both (λ r. r.entry == e) (λ r. r.body a) c.routines at).1 in
     let some : 1 ≤ count_by (λ r. r.body a) c.routines = leb-true 1 (count_by (λ r. r.body a) c.routines) (some_counted (λ r. r.body a) c.routines ∙ other) in
@@ -121,49 +123,39 @@ main_apart c a e one main at =
     let long : bodies_at c a ≡ 1 + count_by (λ r. r.body a) c.routines = ap (λ b. (if b then 1 else 0) + count_by (λ r. r.body a) c.routines) main in
     absurd (omega arith)
 
-bodies_of_routines : (c : Contents) (a : ℕ) → in_two_bodies c a ≡ false → nat_le 2 (count_by (λ r. r.body a) c.routines) ≡ false
+bodies_of_routines : (c : Contents) (a : ℕ) → nat_le 2 (bodies_at c a) ≡ false → nat_le 2 (count_by (λ r. r.body a) c.routines) ≡ false
 bodies_of_routines c a one =
     let few : bodies_at c a < 2 = leb-false 2 (bodies_at c a) one in
     false_of (nat_le 2 (count_by (λ r. r.body a) c.routines)) (λ t. absurd (omega (arith, leb-true 2 (count_by (λ r. r.body a) c.routines) t)))
 
-same_routine : (c : Contents) (d : Declaration) → Says c d → AreWords c → HasNoneFrom 0 (overlaps c) → (a : ℕ) (r q : Routine) → d.body r a ≡ true → d.body q a ≡ true → r ≡ q
-same_routine c d s w apart a None None at also = refl
-same_routine c d s w apart a None (Some f) at also =
-    let main : c.main a ≡ true = sym (ap (λ (m : Words). m a) s.main) ∙ at in
-    let small : a < 4096 = w.bodies a (or_yes_first (c.main a) _ main) in
-    absurd (main_apart c a f (not_two c apart a small) main (sym (s.body f a) ∙ also))
-same_routine c d s w apart a (Some e) None at also =
-    let main : c.main a ≡ true = sym (ap (λ (m : Words). m a) s.main) ∙ also in
-    let small : a < 4096 = w.bodies a (or_yes_first (c.main a) _ main) in
-    absurd (main_apart c a e (not_two c apart a small) main (sym (s.body e a) ∙ at))
-same_routine c d s w apart a (Some e) (Some f) at also =
-    let in_e : list_any (λ r. r.entry == e && r.body a) c.routines ≡ true = sym (s.body e a) ∙ at in
-    let in_f : list_any (λ r. r.entry == f && r.body a) c.routines ≡ true = sym (s.body f a) ∙ also in
-    let small : a < 4096 = w.bodies a (or_yes (c.main a) _ (any_both (λ r. r.entry == e) (λ r. r.body a) c.routines in_e).1) in
-    ap (λ x. Some x) (one_body a e f c.routines (bodies_of_routines c a (not_two c apart a small)) in_e in_f)
+same_routine : (c : Contents) (s : ℕ) → AreWords c → HasNoneFrom 0 (overlaps c) → (a : ℕ) (r q : Routine) → (declaration_of c s).body r a ≡ true → (declaration_of c s).body q a ≡ true → r ≡ q
+same_routine c s w apart a None None at also = refl
+same_routine c s w apart a None (Some f) at also =
+    let small : a < 4096 = w.bodies a (or_yes_first (c.main a) _ at) in absurd (main_apart c a f (not_two c apart a small) at also)
+same_routine c s w apart a (Some e) None at also =
+    let small : a < 4096 = w.bodies a (or_yes_first (c.main a) _ also) in absurd (main_apart c a e (not_two c apart a small) also at)
+same_routine c s w apart a (Some e) (Some f) at also =
+    let small : a < 4096 = w.bodies a (or_yes (c.main a) _ (any_both (λ r. r.entry == e) (λ r. r.body a) c.routines at).1) in
+    ap (λ x. Some x) (one_body a e f c.routines (bodies_of_routines c a (not_two c apart a small)) at also)
 
-outside_of : (c : Contents) (d : Declaration) → Says c d → (a : ℕ) (r : Routine) → in_bodies c a ≡ false → d.body r a ≡ false
-outside_of c d s a None out = ap (λ (m : Words). m a) s.main ∙ or_no_first (c.main a) _ out
-outside_of c d s a (Some e) out =
-    s.body e a ∙ false_of (list_any (λ r. r.entry == e && r.body a) c.routines) (λ t.
+outside_of : (c : Contents) (s a : ℕ) (r : Routine) → in_bodies c a ≡ false → (declaration_of c s).body r a ≡ false
+outside_of c s a None out = or_no_first (c.main a) _ out
+outside_of c s a (Some e) out =
+    false_of (list_any (λ r. r.entry == e && r.body a) c.routines) (λ t.
     let wrong : true ≡ false = sym (any_both (λ r. r.entry == e) (λ r. r.body a) c.routines t).1 ∙ or_no_second (c.main a) _ out in absurd (cc))
 
-body_of_cell : (c : Contents) (d : Declaration) → Says c d → (a : ℕ) → in_bodies c a ≡ true → (r : Routine) × (d.body r a ≡ true)
-body_of_cell c d s a inside = elim (cases_Bool (c.main a)) [
-  | inl e ↦ (None, ap (λ (m : Words). m a) s.main ∙ e)
-  | inr e ↦ let found = body_found a c.routines (rw e at inside) in (Some found.0, s.body found.0 a ∙ found.1)
+body_of_cell : (c : Contents) (s a : ℕ) → in_bodies c a ≡ true → (r : Routine) × ((declaration_of c s).body r a ≡ true)
+body_of_cell c s a inside = elim (cases_Bool (c.main a)) [
+  | inl e ↦ (None, e)
+  | inr e ↦ let found = body_found a c.routines (rw e at inside) in (Some found.0, found.1)
 ]
 
 halt_inside : (c : Contents) → HasNoneFrom 0 (halt_outside c) → (a : ℕ) → a < 4096 → (c.stop a || c.pause a) ≡ true → in_bodies c a ≡ true
 halt_inside c halts a h is = not_false (in_bodies c a) (and_no (c.stop a || c.pause a) (not (in_bodies c a)) (halts a (omega arith) h) is)
 
-halt_of : (c : Contents) (d : Declaration) → Says c d → AreWords c → HasNoneFrom 0 (halt_outside c) → (a : ℕ) → (d.stop a ≡ true) ⊎ (d.pause a ≡ true) → (r : Routine) × (d.body r a ≡ true)
-halt_of c d s w halts a (inl stop) =
-    let is : c.stop a ≡ true = sym (ap (λ (m : Words). m a) s.stop) ∙ stop in
-    body_of_cell c d s a (halt_inside c halts a (w.stops a is) (or_yes_first (c.stop a) (c.pause a) is))
-halt_of c d s w halts a (inr pause) =
-    let is : c.pause a ≡ true = sym (ap (λ (m : Words). m a) s.pause) ∙ pause in
-    body_of_cell c d s a (halt_inside c halts a (w.pauses a is) (or_yes (c.stop a) (c.pause a) is))
+halt_of : (c : Contents) (s : ℕ) → AreWords c → HasNoneFrom 0 (halt_outside c) → (a : ℕ) → (c.stop a ≡ true) ⊎ (c.pause a ≡ true) → (r : Routine) × ((declaration_of c s).body r a ≡ true)
+halt_of c s w halts a (inl is) = body_of_cell c s a (halt_inside c halts a (w.stops a is) (or_yes_first (c.stop a) (c.pause a) is))
+halt_of c s w halts a (inr is) = body_of_cell c s a (halt_inside c halts a (w.pauses a is) (or_yes (c.stop a) (c.pause a) is))
 
 -- an entry in which its routine may store, and a place for which calls may be abandoned
 moves_an_entry : (c : Contents) → HasNoneFrom 0 (misplaced c) → (a : ℕ) → a < 4096 → c.moves a ≡ true → is_entry c a ≡ true
@@ -178,26 +170,18 @@ abandons_in_main c placed a h is =
     not_false (c.main a) (and_no (c.abandon a) (not (c.main a)) none is)
 
 -- What is said and keeps the rules is a declaration.
-pub IsDeclared-from : (c : Contents) (d : Declaration) → Says c d → KeepsRules c d.start → AreWords c → IsDeclared d
-IsDeclared-from c d s k w =
-    let start : d.body None d.start ≡ true = ap (λ (m : Words). m d.start) s.main ∙ k.start_in_main in
-    record {
-      start_is_word = w.bodies d.start (or_yes_first (c.main d.start) _ k.start_in_main);
-      entry_is_word = λ e is. w.entries e (sym (s.entry e) ∙ is);
-      start_in_main = start;
-      bodies_apart = same_routine c d s w k.apart;
-      body_of_routine = λ a e at. s.entry e ∙ (any_both (λ r. r.entry == e) (λ r. r.body a) c.routines (sym (s.body e a) ∙ at)).0;
-      entry_not_in_body = λ e r is. outside_of c d s e r (entry_outside c k.apart e (w.entries e (sym (s.entry e) ∙ is)) (sym (s.entry e) ∙ is));
-      entry_not_variable = λ e is. ap (λ (m : Words). m e) s.variable ∙ entry_fixed c k.apart e (w.entries e (sym (s.entry e) ∙ is)) (sym (s.entry e) ∙ is);
-      entry_not_index = λ e is. and_no (is_entry c e) (is_auto_index e) (k.outside_index e (omega arith) (w.entries e (sym (s.entry e) ∙ is))) (sym (s.entry e) ∙ is);
-      stop_not_pause = λ a pause.
-          let is : c.pause a ≡ true = sym (ap (λ (m : Words). m a) s.pause) ∙ pause in
-          ap (λ (m : Words). m a) s.stop ∙ and_turned (c.stop a) (c.pause a) (halts_differ c k.apart a (w.pauses a is)) is;
-      halt_in_body = halt_of c d s w k.halts_inside;
-      moves_entry = λ e moves.
-          let is : c.moves e ≡ true = sym (ap (λ (m : Words). m e) s.moves) ∙ moves in
-          s.entry e ∙ moves_an_entry c k.placed e (w.moves e is) is;
-      abandon_in_main = λ a abandons.
-          let is : c.abandon a ≡ true = sym (ap (λ (m : Words). m a) s.abandon) ∙ abandons in
-          ap (λ (m : Words). m a) s.main ∙ abandons_in_main c k.placed a (w.abandons a is) is;
-    }
+pub IsDeclared-from : (c : Contents) (s : ℕ) → KeepsRules c s → AreWords c → IsDeclared (declaration_of c s)
+IsDeclared-from c s k w = record {
+  start_is_word = w.bodies s (or_yes_first (c.main s) _ k.start_in_main);
+  entry_is_word = w.entries;
+  start_in_main = k.start_in_main;
+  bodies_apart = same_routine c s w k.apart;
+  body_of_routine = λ a e at. (any_both (λ r. r.entry == e) (λ r. r.body a) c.routines at).0;
+  entry_not_in_body = λ e r is. outside_of c s e r (entry_outside c k.apart e (w.entries e is) is);
+  entry_not_variable = λ e is. entry_fixed c k.apart e (w.entries e is) is;
+  entry_not_index = λ e is. and_no (is_entry c e) (is_auto_index e) (k.outside_index e (omega arith) (w.entries e is)) is;
+  stop_not_pause = λ a pause. and_turned (c.stop a) (c.pause a) (halts_differ c k.apart a (w.pauses a pause)) pause;
+  halt_in_body = halt_of c s w k.halts_inside;
+  moves_entry = λ e moves. moves_an_entry c k.placed e (w.moves e moves) moves;
+  abandon_in_main = λ a abandons. abandons_in_main c k.placed a (w.abandons a abandons) abandons;
+}

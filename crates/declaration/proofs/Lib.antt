@@ -2,8 +2,6 @@ pub mod LineLemmas
 pub mod DraftLemmas
 pub mod RuleLemmas
 pub mod IsDeclaredLemmas
-pub mod EntryLemmas
-pub mod FaultLemmas
-pub mod VerdictLemmas
+pub mod ReadingLemmas
 pub mod AnswerLemmas
 mod OwnerLemmas

@@ -1,25 +1,25 @@
 -- The sets by which the rules are checked.
-use Rattle.std.proofs.Common.{ℕ, ◌≡◌, ◌<◌, ◌+◌, ◌==◌, Bool, true, false, not, ◌&&◌, ◌||◌, cond, List, [], ◌∷◌, length, map, take, get_or, zero-add, add-zero, add_assoc, arith, refl, sym, ◌∙◌, ap, Option, Some, None, inl, inr}
+use Rattle.std.proofs.Common.{ℕ, ◌≡◌, ◌<◌, ◌+◌, ◌==◌, Bool, true, false, not, ◌&&◌, ◌||◌, cond, List, [], ◌∷◌, length, map, take, get_or, zero-add, add-zero, add_assoc, arith, refl, sym, ◌∙◌, ap, Some, None, inl, inr}
 use Rattle.std.specs.Prelude.{nat_le, if◌then◌else◌}
 use Rattle.std.specs.List.{list_any, count_by}
-use Rattle.std.specs.Option.{option_to_list, unwrap_or}
-use Rattle.instruct.specs.declared.Profile.{Profile}
-use Rattle.instruct.specs.declared.Profile.TheVariants.{Pdp8I}
-use Rattle.std.proofs.lemmas.Bool.{cases_Bool, cases_eq, ne_eqb, le-leb}
+use Rattle.std.proofs.lemmas.Bool.{cases_Bool, le-leb}
 use Rattle.std.proofs.lemmas.List.Sums.{sum_by_more, sum_by-cons}
 use Rattle.std.proofs.Math.Path.{fun_ext}
-use Rattle.wordset.specs.Words.{Words, nothing, SameWords, IsFirstFrom, HasNoneFrom}
+use Rattle.wordset.specs.Words.{Words, nothing, first_below, SameWords, IsFirstFrom, HasNoneFrom}
 use Rattle.wordset.specs.Lanes.{words}
+use Rattle.wordset.proofs.Firsts.{first_is}
 use Rattle.wordset.proofs.SetLemmas.{word_small}
 use Rattle.declaration.specs.DeclarationInCode.{offsets_of, subroutine_of, further_of, place_assertion_of, return_assertion_of}
 use Rattle.declaration.specs.declared.FurtherOffsets.{FurtherOffsets as KeptFurtherOffsets}
 use Rattle.declaration.specs.declared.PlaceAssertion.{PlaceAssertion}
 use Rattle.declaration.specs.declared.ReturnAssertion.{ReturnAssertion}
-use Rattle.declaration.specs.Text.{Contents, profile_of, is_entry, in_bodies, bodies_at, entries_at, overlaps, entry_in_index, halt_outside, is_named_entry, is_held, misplaced}
+use Rattle.declaration.specs.Text.{Contents, is_entry, in_bodies, bodies_at, overlaps, entry_in_index, halt_outside, is_named_entry, misplaced, fault_of}
 use Rattle.processor.specs.Machine.{is_auto_index}
-use Rattle.declaration.specs.Drafts.{Counts, kept_bodies, kept_entries, named_entries}
+use Rattle.declaration.specs.Drafts.{Counts, KeepsRules, entries_at, is_held, kept_bodies, kept_entries, named_entries}
+use Rattle.declaration.specs.declared.DeclarationFault.TheVariants.{Overlap, EntryInAutoIndex, StartNotInMain, HaltNotInBody, Misplaced}
 use Rattle.declaration.specs.declared.coverage.Coverage.{Coverage}
 use Rattle.declaration.specs.declared.Routine.{Routine as KeptRoutine}
+use Rattle.declaration.proofs.LineLemmas.{eqb-turned}
 
 -- ---- sets below 4096
 
@@ -71,20 +71,20 @@ pub offsets_said : (routines : List KeptRoutine) (skips : List KeptFurtherOffset
     ≡ (list_any (λ r. r.entry == e && r.offsets o) (map subroutine_of routines) || list_any (λ s. s.entry == e && s.offsets o) (map further_of skips))
 offsets_said routines skips e o = rw (any_map subroutine_of (λ r. r.entry == e && r.offsets o) routines, any_map further_of (λ s. s.entry == e && s.offsets o) skips) refl
 
--- counts that agree below 4096
-pub Counts-same : (coverage : Coverage) (n m : ℕ → ℕ) → Counts coverage n → ((a : ℕ) → a < 4096 → n a ≡ m a) → Counts coverage m
+-- counts that agree
+Counts-same : (coverage : Coverage) (n m : ℕ → ℕ) → Counts coverage n → ((a : ℕ) → n a ≡ m a) → Counts coverage m
 Counts-same coverage n m counts same = record {
-  once = λ a h. counts.once a h ∙ ap (λ k. nat_le 1 k) (same a h);
-  twice = λ a h. counts.twice a h ∙ ap (λ k. nat_le 2 k) (same a h);
+  once = λ a. counts.once a ∙ ap (λ k. nat_le 1 k) (same a);
+  twice = λ a. counts.twice a ∙ ap (λ k. nat_le 2 k) (same a);
 }
 
 -- ---- overlaps
 
-pub overlaps_found : (c : Contents) (bodies entries : Coverage) (v : ℕ) → v < 4096 → Counts bodies (bodies_at c) → Counts entries (entries_at c)
+pub overlaps_found : (c : Contents) (bodies entries : Coverage) (v : ℕ) → Counts bodies (bodies_at c) → Counts entries (entries_at c)
     → (variable stop pause : Bool) → variable ≡ c.variable v → stop ≡ c.stop v → pause ≡ c.pause v
     → (words bodies.twice v || (words entries.once v && words bodies.once v) || (words entries.once v && variable) || words entries.twice v || (stop && pause)) ≡ overlaps c v
-overlaps_found c bodies entries v h b e variable stop pause is_variable is_stop is_pause =
-    rw (b.twice v h, b.once v h, e.twice v h, e.once v h, in_bodies_once c v, is_entry_once c v, is_variable, is_stop, is_pause) refl
+overlaps_found c bodies entries v b e variable stop pause is_variable is_stop is_pause =
+    rw (b.twice v, b.once v, e.twice v, e.once v, in_bodies_once c v, is_entry_once c v, is_variable, is_stop, is_pause) refl
 
 -- ---- the loops over routines
 
@@ -93,10 +93,7 @@ pub bodies_start : (coverage grown : Coverage) (main : List ℕ) (routines : Lis
     → ((number : ℕ → ℕ) → Counts coverage number → Counts grown (λ a. number a + (if words main a then 1 else 0)))
     → Counts grown (kept_bodies main (take 0 routines))
 bodies_start coverage grown main routines none add =
-    Counts-same grown (λ a. 0 + (if words main a then 1 else 0)) (kept_bodies main (take 0 routines)) (add (λ _. 0) none) (λ a h. zero-add (if words main a then 1 else 0) ∙ sym (add-zero (if words main a then 1 else 0)))
-
-eqb-turned : (a b : ℕ) → (a == b) ≡ (b == a)
-eqb-turned a b = elim (cases_eq a b) [ inl e ↦ rw e refl | inr ne ↦ ne_eqb a b ne ∙ sym (ne_eqb b a (λ e. ne (sym e))) ]
+    Counts-same grown (λ a. 0 + (if words main a then 1 else 0)) (kept_bodies main (take 0 routines)) (add (λ _. 0) none) (λ a. zero-add (if words main a then 1 else 0) ∙ sym (add-zero (if words main a then 1 else 0)))
 
 -- one routine more
 bodies_more : (main : List ℕ) (routines : List KeptRoutine) (i : ℕ) (r : KeptRoutine) (a : ℕ) → i < length routines → r ≡ get_or routines i r
@@ -113,7 +110,7 @@ pub bodies_step : (coverage grown : Coverage) (main : List ℕ) (routines : List
     → ((number : ℕ → ℕ) → Counts coverage number → Counts grown (λ a. number a + (if words r.body a then 1 else 0)))
     → Counts grown (kept_bodies main (take (i + 1) routines))
 bodies_step coverage grown main routines i r h is so_far add =
-    Counts-same grown (λ a. kept_bodies main (take i routines) a + (if words r.body a then 1 else 0)) (kept_bodies main (take (i + 1) routines)) (add (kept_bodies main (take i routines)) so_far) (λ a small. bodies_more main routines i r a h is)
+    Counts-same grown (λ a. kept_bodies main (take i routines) a + (if words r.body a then 1 else 0)) (kept_bodies main (take (i + 1) routines)) (add (kept_bodies main (take i routines)) so_far) (λ a. bodies_more main routines i r a h is)
 
 entries_more : (routines : List KeptRoutine) (i : ℕ) (r : KeptRoutine) (set : List ℕ) (a : ℕ) → i < length routines → r ≡ get_or routines i r → words set a ≡ (r.entry == a)
     → kept_entries (take i routines) a + (if words set a then 1 else 0) ≡ kept_entries (take (i + 1) routines) a
@@ -124,19 +121,19 @@ entries_more routines i r set a h is inside =
     ap (λ n. kept_entries (take i routines) a + n) same ∙ sym more
 
 pub entries_step : (coverage grown : Coverage) (routines : List KeptRoutine) (i : ℕ) (r : KeptRoutine) (set : List ℕ) → i < length routines → r ≡ get_or routines i r
-    → SameWords (words set) (λ a. a == r.entry)
+    → words set ≡ (λ a. a == r.entry)
     → Counts coverage (kept_entries (take i routines))
     → ((number : ℕ → ℕ) → Counts coverage number → Counts grown (λ a. number a + (if words set a then 1 else 0)))
     → Counts grown (kept_entries (take (i + 1) routines))
 entries_step coverage grown routines i r set h is one so_far add =
     Counts-same grown (λ a. kept_entries (take i routines) a + (if words set a then 1 else 0)) (kept_entries (take (i + 1) routines)) (add (kept_entries (take i routines)) so_far)
-    (λ a small. entries_more routines i r set a h is (one a small ∙ eqb-turned a r.entry))
+    (λ a. entries_more routines i r set a h is (ap (λ (s : Words). s a) one ∙ eqb-turned a r.entry))
 
 -- of all that is kept
 pub bodies_all : (coverage : Coverage) (c : Contents) (main : List ℕ) (routines items : List KeptRoutine) → routines ≡ items → c.main ≡ words main → c.routines ≡ map subroutine_of items
     → Counts coverage (kept_bodies main routines) → Counts coverage (bodies_at c)
 bodies_all coverage c main routines items same is_main are_routines counts =
-    Counts-same coverage (kept_bodies main routines) (bodies_at c) counts (λ a h.
+    Counts-same coverage (kept_bodies main routines) (bodies_at c) counts (λ a.
     ap (λ rs. (if words main a then 1 else 0) + count_by (λ r. words r.body a) rs) same
     ∙ (ap (λ n. (if words main a then 1 else 0) + n) (sym (count_map subroutine_of (λ r. r.body a) items))
     ∙ (ap (λ m. (if m a then 1 else 0) + count_by (λ r. r.body a) (map subroutine_of items)) (sym is_main)
@@ -145,19 +142,19 @@ bodies_all coverage c main routines items same is_main are_routines counts =
 pub entries_all : (coverage : Coverage) (c : Contents) (routines items : List KeptRoutine) → routines ≡ items → c.routines ≡ map subroutine_of items
     → Counts coverage (kept_entries routines) → Counts coverage (entries_at c)
 entries_all coverage c routines items same are_routines counts =
-    Counts-same coverage (kept_entries routines) (entries_at c) counts (λ a h.
+    Counts-same coverage (kept_entries routines) (entries_at c) counts (λ a.
     ap (λ rs. count_by (λ r. r.entry == a) rs) same
     ∙ (sym (count_map subroutine_of (λ r. r.entry == a) items) ∙ ap (λ rs. count_by (λ r. r.entry == a) rs) (sym are_routines)))
 
 -- ---- entries in auto-index cells, and halts in no body
 
-pub entry_in_index_found : (c : Contents) (entries : Coverage) (index : List ℕ) (v : ℕ) → v < 4096 → Counts entries (entries_at c) → words index v ≡ is_auto_index v
+pub entry_in_index_found : (c : Contents) (entries : Coverage) (index : List ℕ) (v : ℕ) → Counts entries (entries_at c) → words index v ≡ is_auto_index v
     → (words entries.once v && words index v) ≡ entry_in_index c v
-entry_in_index_found c entries index v h e is = rw (e.once v h, is_entry_once c v, is) refl
+entry_in_index_found c entries index v e is = rw (e.once v, is_entry_once c v, is) refl
 
-pub halt_outside_found : (c : Contents) (bodies : Coverage) (v : ℕ) → v < 4096 → Counts bodies (bodies_at c) → (stop pause : Bool) → stop ≡ c.stop v → pause ≡ c.pause v
+pub halt_outside_found : (c : Contents) (bodies : Coverage) (v : ℕ) → Counts bodies (bodies_at c) → (stop pause : Bool) → stop ≡ c.stop v → pause ≡ c.pause v
     → ((stop || pause) && not (words bodies.once v)) ≡ halt_outside c v
-halt_outside_found c bodies v h b stop pause is_stop is_pause = rw (b.once v h, in_bodies_once c v, is_stop, is_pause) refl
+halt_outside_found c bodies v b stop pause is_stop is_pause = rw (b.once v, in_bodies_once c v, is_stop, is_pause) refl
 
 -- ---- what is misplaced
 
@@ -170,10 +167,10 @@ named_kept c moves skips skipped returns returned a is_moves same_skips is_skips
 pub held_kept : (c : Contents) (holds held : List PlaceAssertion) (a : ℕ) → holds ≡ held → c.holds ≡ map place_assertion_of held → list_any (λ h. words h.places a) holds ≡ is_held c a
 held_kept c holds held a same is = rw (same, is, any_map place_assertion_of (λ h. h.places a) held) refl
 
-pub misplaced_found : (c : Contents) (bodies entries : Coverage) (v : ℕ) → v < 4096 → Counts bodies (bodies_at c) → Counts entries (entries_at c) → (named abandon main held : Bool) → named ≡ is_named_entry c v → abandon ≡ c.abandon v → main ≡ c.main v → held ≡ is_held c v
+pub misplaced_found : (c : Contents) (bodies entries : Coverage) (v : ℕ) → Counts bodies (bodies_at c) → Counts entries (entries_at c) → (named abandon main held : Bool) → named ≡ is_named_entry c v → abandon ≡ c.abandon v → main ≡ c.main v → held ≡ is_held c v
     → ((named && not (words entries.once v)) || (abandon && not main) || (held && not (words bodies.once v))) ≡ misplaced c v
-misplaced_found c bodies entries v h b e named abandon main held is_named is_abandon is_main holds =
-    rw (b.once v h, in_bodies_once c v, e.once v h, is_entry_once c v, is_named, is_abandon, is_main, holds) refl
+misplaced_found c bodies entries v b e named abandon main held is_named is_abandon is_main holds =
+    rw (b.once v, in_bodies_once c v, e.once v, is_entry_once c v, is_named, is_abandon, is_main, holds) refl
 
 -- one of a list more
 pub any_more : {X : Type 0} (p : X → Bool) (xs : List X) (i : ℕ) (x : X) → i < length xs → x ≡ get_or xs i x → list_any p (take (i + 1) xs) ≡ (list_any p (take i xs) || p x)
@@ -208,11 +205,6 @@ set_more cells set new xs i x h is so_far grown =
 pub none_yet : {X : Type 0} (p : X → ℕ → Bool) (set : Words) (xs : List X) → set ≡ nothing → set ≡ (λ a. list_any (λ y. p y a) (take 0 xs))
 none_yet p set xs none = none ∙ fun_ext (λ a. refl)
 
--- the machine, or the 8/I
-pub profile_or : (p : Option Profile) → unwrap_or p Pdp8I ≡ profile_of (option_to_list p)
-profile_or None = refl
-profile_or (Some p) = refl
-
 -- the cells that are kept are words
 pub cell_below : (lanes : List ℕ) (a : ℕ) → words lanes a ≡ true → a < 4096
 cell_below lanes a is = word_small lanes a is
@@ -229,3 +221,38 @@ in_bodies_below main routines a is = elim (cases_Bool (words main a)) [
   | inl e ↦ cell_below main a e
   | inr e ↦ body_below routines a (rw e at is)
 ]
+
+-- so are the entries that are counted
+pub entries_below : (c : Contents) (entries : Coverage) → Counts entries (entries_at c) → (e : ℕ) → is_entry c e ≡ true → e < 4096
+entries_below c entries counts e is = cell_below entries.once e (counts.once e ∙ is_entry_once c e ∙ is)
+
+-- ---- the first fault of all lines
+
+found_first : (set : Words) (a : ℕ) → IsFirstFrom 0 set a → first_below 4096 set ≡ Some a
+found_first set a is = sym (first_is (Some a) set is)
+
+found_none : (set : Words) → HasNoneFrom 0 set → first_below 4096 set ≡ None
+found_none set none = sym (first_is None set none)
+
+pub overlap_first : (c : Contents) (start a : ℕ) → IsFirstFrom 0 (overlaps c) a → fault_of c start ≡ Some (Overlap a)
+overlap_first c start a is = rw (found_first (overlaps c) a is) refl
+
+pub index_first : (c : Contents) (start a : ℕ) → HasNoneFrom 0 (overlaps c) → IsFirstFrom 0 (entry_in_index c) a → fault_of c start ≡ Some (EntryInAutoIndex a)
+index_first c start a apart is = rw (found_none (overlaps c) apart, found_first (entry_in_index c) a is) refl
+
+pub start_first : (c : Contents) (start : ℕ) → HasNoneFrom 0 (overlaps c) → HasNoneFrom 0 (entry_in_index c) → c.main start ≡ false → fault_of c start ≡ Some StartNotInMain
+start_first c start apart outside is = rw (found_none (overlaps c) apart, found_none (entry_in_index c) outside, is) refl
+
+pub halt_first : (c : Contents) (start a : ℕ) → HasNoneFrom 0 (overlaps c) → HasNoneFrom 0 (entry_in_index c) → c.main start ≡ true → IsFirstFrom 0 (halt_outside c) a
+    → fault_of c start ≡ Some (HaltNotInBody a)
+halt_first c start a apart outside main is =
+    rw (found_none (overlaps c) apart, found_none (entry_in_index c) outside, main, found_first (halt_outside c) a is) refl
+
+pub misplaced_first : (c : Contents) (start a : ℕ) → HasNoneFrom 0 (overlaps c) → HasNoneFrom 0 (entry_in_index c) → c.main start ≡ true → HasNoneFrom 0 (halt_outside c)
+    → IsFirstFrom 0 (misplaced c) a → fault_of c start ≡ Some (Misplaced a)
+misplaced_first c start a apart outside main inside is =
+    rw (found_none (overlaps c) apart, found_none (entry_in_index c) outside, main, found_none (halt_outside c) inside, found_first (misplaced c) a is) refl
+
+pub no_fault_first : (c : Contents) (start : ℕ) → KeepsRules c start → fault_of c start ≡ None
+no_fault_first c start k =
+    rw (found_none (overlaps c) k.apart, found_none (entry_in_index c) k.outside_index, k.start_in_main, found_none (halt_outside c) k.halts_inside, found_none (misplaced c) k.placed) refl

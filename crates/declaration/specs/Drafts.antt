@@ -1,13 +1,15 @@
 -- What is gathered while a declaration is read. Private contracts alone cite this.
-use Rattle.std.specs.Prelude.{◌≡◌, ℕ, ◌+◌, ◌<◌, nat_le, ◌==◌, ◌||◌, if◌then◌else◌, unwrap_or, List, [], ◌∷◌, ◌++◌, length, map, Option, Some, None}
+use Rattle.std.specs.Prelude.{◌≡◌, ℕ, ◌+◌, nat_le, ◌==◌, ◌||◌, if◌then◌else◌, true, List, map, Option, None, Ok, Err, IsOk}
 use Rattle.std.specs.List.{list_any, count_by, before_first}
-use Rattle.std.specs.Option.{option_map, option_to_list}
-use Rattle.wordset.specs.Words.{Words, nothing, union}
+use Rattle.std.specs.Option.{option_map}
+use Rattle.wordset.specs.Words.{Words, HasNoneFrom}
 use Rattle.wordset.specs.Lanes.{words}
 use Rattle.declaration.specs.DeclarationInCode.{subroutine_of, further_of, place_assertion_of, return_assertion_of}
-use Rattle.declaration.specs.Lines.{Line, Nothing, Start, Main, Sub, Variables, Stops, Pauses, Machine, Reads, Skips, Moves, Abandon, Holds, Returns, all_read, range_of, address_of, is_returns, is_subject, line_of}
-use Rattle.declaration.specs.Text.{Contents, contents, HasGoodLines, most_routines, most_skips, most_assertions, assertions_in}
+use Rattle.declaration.specs.Lines.{Line, Nothing, Start, Main, Sub, Variables, Stops, Pauses, Machine, Reads, Skips, Moves, Abandon, Holds, Returns, all_of, range_of, address_of, is_returns, is_subject}
+use Rattle.declaration.specs.Text.{Contents, with_line, takes_memory, overlaps, entry_in_index, halt_outside, misplaced}
 use Rattle.declaration.specs.declared.Routine.{Routine as KeptRoutine}
+use Rattle.declaration.specs.declared.DeclarationFault.{DeclarationFault}
+use Rattle.declaration.specs.declared.DeclarationFault.TheVariants.{NoMemory}
 use Rattle.declaration.specs.declared.lines.Form.{Form}
 use Rattle.declaration.specs.declared.lines.Form.TheVariants.{Range, Address}
 use Rattle.declaration.specs.declared.lines.DeclarationLine.{DeclarationLine as KeptLine}
@@ -23,12 +25,12 @@ cells_read Range word = range_of word
 cells_read Address word = address_of word
 
 -- The ranges of a body, of which there may be none, up to the word `returns`.
-abbrev pub ranges_before : List (List ℕ) → Option (List Words)
-ranges_before words = if list_any is_returns words then all_read range_of (before_first is_returns words) else None
+abbrev pub ranges_before : List (List ℕ) → Option Words
+ranges_before words = if list_any is_returns words then all_of range_of (before_first is_returns words) else None
 
 -- The cells of the addresses before the name of a subject, of which there may be none.
-abbrev pub cells_before : List (List ℕ) → Option (List Words)
-cells_before words = all_read address_of (before_first is_subject words)
+abbrev pub cells_before : List (List ℕ) → Option Words
+cells_before words = all_of address_of (before_first is_subject words)
 
 -- What a line in code says.
 abbrev pub said : KeptLine → Line
@@ -50,8 +52,8 @@ said (KeptReturns r) = Returns (return_assertion_of r)
 -- What is gathered so far.
 abbrev pub gathered : {A : Type 0} → Draft A → Contents
 gathered d = record {
-  starts = option_to_list d.start;
-  profiles = option_to_list d.profile;
+  start = d.start;
+  profile = d.profile;
   main = words d.main;
   routines = map subroutine_of d.routines.items;
   variable = words d.variables;
@@ -65,58 +67,36 @@ gathered d = record {
   returns = map return_assertion_of d.returns.items;
 }
 
--- What is said with one line more.
-abbrev pub with_line : Contents → Line → Contents
-with_line c Nothing = c
-with_line c (Start a) = record c { starts = c.starts ++ a ∷ [] }
-with_line c (Main set) = record c { main = union c.main set }
-with_line c (Sub r) = record c { routines = c.routines ++ r ∷ [] }
-with_line c (Variables set) = record c { variable = union c.variable set }
-with_line c (Stops set) = record c { stop = union c.stop set }
-with_line c (Pauses set) = record c { pause = union c.pause set }
-with_line c (Machine p) = record c { profiles = c.profiles ++ p ∷ [] }
-with_line c (Reads set) = record c { reads = Some (union (unwrap_or c.reads nothing) set) }
-with_line c (Skips s) = record c { skips = c.skips ++ s ∷ [] }
-with_line c (Moves set) = record c { moves = union c.moves set }
-with_line c (Abandon set) = record c { abandon = union c.abandon set }
-with_line c (Holds h) = record c { holds = c.holds ++ h ∷ [] }
-with_line c (Returns r) = record c { returns = c.returns ++ r ∷ [] }
+-- A line that is taken has no fault, whatever its number, and this is said with it.
+abbrev pub Adds : Contents → Option Line → Contents → Type 0
+Adds c line after = (number : ℕ) → with_line number c line ≡ Ok after
 
--- The line may follow: it is no second start and no second machine, and not a routine, a line of further offsets or an
--- assertion too many.
-abbrev pub MayFollow : Contents → Line → Type 0
-MayFollow c Nothing = Unit {0}
-MayFollow c (Start a) = c.starts ≡ []
-MayFollow c (Main set) = Unit {0}
-MayFollow c (Sub r) = length c.routines < most_routines
-MayFollow c (Variables set) = Unit {0}
-MayFollow c (Stops set) = Unit {0}
-MayFollow c (Pauses set) = Unit {0}
-MayFollow c (Machine p) = c.profiles ≡ []
-MayFollow c (Reads set) = Unit {0}
-MayFollow c (Skips s) = length c.skips < most_skips
-MayFollow c (Moves set) = Unit {0}
-MayFollow c (Abandon set) = Unit {0}
-MayFollow c (Holds h) = assertions_in c < most_assertions
-MayFollow c (Returns r) = assertions_in c < most_assertions
+-- A line of this number is refused for its fault, or for want of the memory that it takes.
+abbrev pub IsRefused : Contents → ℕ → Option Line → DeclarationFault → Type 0
+IsRefused c number line NoMemory = (takes_memory line ≡ true) × IsOk (with_line number c line)
+IsRefused c number line fault = with_line number c line ≡ Err fault
 
--- A line that may follow adds what it says to what was said before it.
-pub record Adds (c : Contents) (text : List ℕ) (after : Contents) : Type 0 where
-  pub line : Line
-  pub is : line_of text ≡ Some line
-  pub follows : MayFollow c line
-  pub added : after ≡ with_line c line
+-- Nothing overlaps, no entry is an auto-index cell, the start is in main's body, each declared halt is in some body, and
+-- nothing is misplaced.
+pub record KeepsRules (c : Contents) (start : ℕ) : Type 0 where
+  pub apart : HasNoneFrom 0 (overlaps c)
+  pub outside_index : HasNoneFrom 0 (entry_in_index c)
+  pub start_in_main : c.main start ≡ true
+  pub halts_inside : HasNoneFrom 0 (halt_outside c)
+  pub placed : HasNoneFrom 0 (misplaced c)
 
--- All lines of a text that is not too long are good, and this is what they say together.
-pub record HasLines (text : List ℕ) (c : Contents) : Type 0 where
-  pub lines : List Line
-  pub good : HasGoodLines text lines
-  pub together : contents lines ≡ c
+-- How many routines have the cell as their entry, counted line by line.
+abbrev pub entries_at : Contents → ℕ → ℕ
+entries_at c a = count_by (λ r. r.entry == a) c.routines
+
+-- There is an assertion about this address.
+abbrev pub is_held : Contents → Words
+is_held c a = list_any (λ h. h.places a) c.holds
 
 -- The two sets have the words that stand in so many sets or more: one, and two.
 pub record Counts (coverage : Coverage) (number : ℕ → ℕ) : Type 0 where
-  pub once : (a : ℕ) → a < 4096 → words coverage.once a ≡ nat_le 1 (number a)
-  pub twice : (a : ℕ) → a < 4096 → words coverage.twice a ≡ nat_le 2 (number a)
+  pub once : (a : ℕ) → words coverage.once a ≡ nat_le 1 (number a)
+  pub twice : (a : ℕ) → words coverage.twice a ≡ nat_le 2 (number a)
 
 -- In how many bodies a cell is, and how many routines have an entry, of those that are kept.
 abbrev pub kept_bodies : List ℕ → List KeptRoutine → ℕ → ℕ

@@ -1,12 +1,9 @@
 //! Sets of cells, in the words of declarations.
 
-ghost use Rattle.std.specs.Prelude.{ℕ, ◌≡◌, ◌+◌, ◌<◌, if◌then◌else◌};
-ghost use Rattle.wordset.specs.Words.{nothing, one, between, union};
-ghost use Rattle.wordset.specs.Lanes.{words};
+ghost use Rattle.std.specs.Prelude.{ℕ, ◌+◌, if◌then◌else◌};
 ghost use Rattle.wordset.specs.Lanes.{words};
 ghost use Rattle.declaration.specs.Drafts.{Counts};
 
-use word12::Word;
 use wordset::WordSet;
 
 /// The cells that are in one or more of some sets, and those that are in two or more.

@@ -1,14 +1,14 @@
 //! What the lines of a declaration say together, and the rules that it keeps.
 
-ghost use Rattle.std.specs.Prelude.{ℕ, Some, ◌≡◌, ◌<◌, ◌≤◌, ◌+◌, ◌==◌, ◌↔◌, [], ◌∷◌, if◌then◌else◌, map, IsTrue, OnOk, IfOk, IfErr};
+ghost use Rattle.std.specs.Prelude.{ℕ, Some, Ok, Err, ◌≡◌, ◌<◌, ◌≤◌, ◌+◌, ◌==◌, ◌↔◌, length, map, true, IsTrue, OnOk, IfOk, IfErr};
 ghost use Rattle.std.specs.List.{list_any};
 ghost use Rattle.wordset.specs.Words.{SameWords};
 ghost use Rattle.wordset.specs.Lanes.{words};
 ghost use Rattle.processor.specs.Machine.{is_auto_index};
 ghost use Rattle.declaration.specs.Declaration.{IsDeclared};
 ghost use Rattle.declaration.specs.DeclarationInCode.{meaning, routines_of, subroutine_of};
-ghost use Rattle.declaration.specs.Text.{contents, is_entry, Says, KeepsRules, LineFails, RuleFails, overlaps, entry_in_index, halt_outside, misplaced, bodies_at, entries_at, assertions_in, most_assertions};
-ghost use Rattle.declaration.specs.Drafts.{gathered, said, with_line, MayFollow, Counts, kept_bodies, kept_entries, named_entries};
+ghost use Rattle.declaration.specs.Text.{nothing_said, is_entry, overlaps, entry_in_index, halt_outside, misplaced, bodies_at, fault_of, whole};
+ghost use Rattle.declaration.specs.Drafts.{gathered, said, Adds, IsRefused, KeepsRules, Counts, entries_at, kept_bodies, kept_entries, named_entries};
 
 use super::coverage::Coverage;
 use super::lines::{DeclarationLine, read_line};
@@ -53,7 +53,7 @@ impl<A: Allocator> Draft<A> {
     pub fn new(alloc: A) -> Draft<A>
     where
         A: Copy,
-        ensures { gathered result ≡ contents [] }
+        ensures { gathered result ≡ nothing_said }
     {
         Draft {
             start: None,
@@ -75,10 +75,9 @@ impl<A: Allocator> Draft<A> {
     /// Adds what the line of a number says, where it may follow.
     fn add(&mut self, line: &DeclarationLine, number: usize) -> Result<(), DeclarationFault>
         ensures added { OnOk result
-            (gathered self.new ≡ with_line (gathered self.old) (said line.now)) }
-        ensures follows { OnOk result (MayFollow (gathered self.old) (said line.now)) }
+            (Adds (gathered self.old) (Some (said line.now)) (gathered self.new)) }
         ensures refused { IfErr result
-            (LineFails (gathered self.old) number (Some (said line.now))) }
+            (IsRefused (gathered self.old) number (Some (said line.now))) }
     {
         match line {
             DeclarationLine::Nothing => {}
@@ -101,11 +100,9 @@ impl<A: Allocator> Draft<A> {
 
     fn add_start(&mut self, at: Word, number: usize) -> Result<(), DeclarationFault>
         ensures added { OnOk result
-            (gathered self.new ≡ with_line (gathered self.old) (said (DeclarationLine.Start at))) }
-        ensures follows { OnOk result
-            (MayFollow (gathered self.old) (said (DeclarationLine.Start at))) }
+            (Adds (gathered self.old) (Some (said (DeclarationLine.Start at))) (gathered self.new)) }
         ensures refused { IfErr result
-            (LineFails (gathered self.old) number (Some (said (DeclarationLine.Start at)))) }
+            (IsRefused (gathered self.old) number (Some (said (DeclarationLine.Start at)))) }
     {
         if self.start.is_some() {
             return Err(DeclarationFault::TwoStarts(number));
@@ -116,11 +113,9 @@ impl<A: Allocator> Draft<A> {
 
     fn add_profile(&mut self, profile: Profile, number: usize) -> Result<(), DeclarationFault>
         ensures added { OnOk result
-            (gathered self.new ≡ with_line (gathered self.old) (said (DeclarationLine.Machine profile))) }
-        ensures follows { OnOk result
-            (MayFollow (gathered self.old) (said (DeclarationLine.Machine profile))) }
+            (Adds (gathered self.old) (Some (said (DeclarationLine.Machine profile))) (gathered self.new)) }
         ensures refused { IfErr result
-            (LineFails (gathered self.old) number (Some (said (DeclarationLine.Machine profile)))) }
+            (IsRefused (gathered self.old) number (Some (said (DeclarationLine.Machine profile)))) }
     {
         if self.profile.is_some() {
             return Err(DeclarationFault::TwoProfiles(number));
@@ -131,11 +126,9 @@ impl<A: Allocator> Draft<A> {
 
     fn add_routine(&mut self, routine: &Routine, number: usize) -> Result<(), DeclarationFault>
         ensures added { OnOk result
-            (gathered self.new ≡ with_line (gathered self.old) (said (DeclarationLine.Sub routine.now))) }
-        ensures follows { OnOk result
-            (MayFollow (gathered self.old) (said (DeclarationLine.Sub routine.now))) }
+            (Adds (gathered self.old) (Some (said (DeclarationLine.Sub routine.now))) (gathered self.new)) }
         ensures refused { IfErr result
-            (LineFails (gathered self.old) number (Some (said (DeclarationLine.Sub routine.now)))) }
+            (IsRefused (gathered self.old) number (Some (said (DeclarationLine.Sub routine.now)))) }
     {
         if self.routines.len() >= MOST_ROUTINES {
             return Err(DeclarationFault::TooMany);
@@ -147,7 +140,7 @@ impl<A: Allocator> Draft<A> {
     }
 
     fn add_reads(&mut self, set: &WordSet)
-        ensures { gathered self.new ≡ with_line (gathered self.old) (said (DeclarationLine.Reads set.now)) }
+        ensures { Adds (gathered self.old) (Some (said (DeclarationLine.Reads set.now))) (gathered self.new) }
     {
         let reads = match self.reads {
             Some(reads) => reads,
@@ -158,11 +151,9 @@ impl<A: Allocator> Draft<A> {
 
     fn add_skips(&mut self, skips: &FurtherOffsets, number: usize) -> Result<(), DeclarationFault>
         ensures added { OnOk result
-            (gathered self.new ≡ with_line (gathered self.old) (said (DeclarationLine.Skips skips.now))) }
-        ensures follows { OnOk result
-            (MayFollow (gathered self.old) (said (DeclarationLine.Skips skips.now))) }
+            (Adds (gathered self.old) (Some (said (DeclarationLine.Skips skips.now))) (gathered self.new)) }
         ensures refused { IfErr result
-            (LineFails (gathered self.old) number (Some (said (DeclarationLine.Skips skips.now)))) }
+            (IsRefused (gathered self.old) number (Some (said (DeclarationLine.Skips skips.now)))) }
     {
         if self.skips.len() >= MOST_SKIPS {
             return Err(DeclarationFault::TooMany);
@@ -175,7 +166,8 @@ impl<A: Allocator> Draft<A> {
 
     /// Whether there are as many assertions as there may be.
     fn has_all_assertions(&self) -> bool
-        ensures { IsTrue result ↔ (most_assertions ≤ assertions_in (gathered self.now)) }
+        ensures { IsTrue result
+            ↔ (256 ≤ length (gathered self.now).holds + length (gathered self.now).returns) }
     {
         self.holds.len() >= MOST_ASSERTIONS
             || self.returns.len() >= MOST_ASSERTIONS - self.holds.len()
@@ -187,11 +179,9 @@ impl<A: Allocator> Draft<A> {
         number: usize,
     ) -> Result<(), DeclarationFault>
         ensures added { OnOk result
-            (gathered self.new ≡ with_line (gathered self.old) (said (DeclarationLine.Holds holding.now))) }
-        ensures follows { OnOk result
-            (MayFollow (gathered self.old) (said (DeclarationLine.Holds holding.now))) }
+            (Adds (gathered self.old) (Some (said (DeclarationLine.Holds holding.now))) (gathered self.new)) }
         ensures refused { IfErr result
-            (LineFails (gathered self.old) number (Some (said (DeclarationLine.Holds holding.now)))) }
+            (IsRefused (gathered self.old) number (Some (said (DeclarationLine.Holds holding.now)))) }
     {
         if self.has_all_assertions() {
             return Err(DeclarationFault::TooMany);
@@ -208,11 +198,9 @@ impl<A: Allocator> Draft<A> {
         number: usize,
     ) -> Result<(), DeclarationFault>
         ensures added { OnOk result
-            (gathered self.new ≡ with_line (gathered self.old) (said (DeclarationLine.Returns returning.now))) }
-        ensures follows { OnOk result
-            (MayFollow (gathered self.old) (said (DeclarationLine.Returns returning.now))) }
+            (Adds (gathered self.old) (Some (said (DeclarationLine.Returns returning.now))) (gathered self.new)) }
         ensures refused { IfErr result
-            (LineFails (gathered self.old) number (Some (said (DeclarationLine.Returns returning.now)))) }
+            (IsRefused (gathered self.old) number (Some (said (DeclarationLine.Returns returning.now)))) }
     {
         if self.has_all_assertions() {
             return Err(DeclarationFault::TooMany);
@@ -225,13 +213,11 @@ impl<A: Allocator> Draft<A> {
 
     /// The declaration, where all that was said keeps the rules.
     pub fn finish(self) -> Result<Declaration<A>, DeclarationFault>
-        requires { (e : ℕ) → IsTrue (is_entry (gathered self) e) → e < 4096 }
-        ensures says { IfOk result (λ d. Says (gathered self) (meaning d)) }
-        ensures rules { IfOk result (λ d. KeepsRules (gathered self) (meaning d).start) }
+        ensures found { IfOk result (λ d. whole (gathered self) ≡ Ok (meaning d)) }
         ensures declared { IfOk result (λ d. IsDeclared (meaning d)) }
         ensures routines { IfOk result (λ d.
             map subroutine_of (routines_of d) ≡ (gathered self).routines) }
-        ensures broken { IfErr result (RuleFails (gathered self)) }
+        ensures broken { IfErr result (λ fault. whole (gathered self) ≡ Err fault) }
     {
         let Some(start) = self.start else {
             return Err(DeclarationFault::NoStart);
@@ -258,9 +244,10 @@ impl<A: Allocator> Draft<A> {
 
     /// Looks for the first rule that is violated.
     fn keeps_rules(&self, start: Word) -> Result<(), DeclarationFault>
-        requires { (gathered self.now).starts ≡ start ∷ [] }
         ensures kept { OnOk result (KeepsRules (gathered self.now) start) }
-        ensures broken { IfErr result (RuleFails (gathered self.now)) }
+        ensures fit { OnOk result
+            ((e : ℕ) → is_entry (gathered self.now) e ≡ true → e < 4096) }
+        ensures broken { IfErr result (λ fault. fault_of (gathered self.now) start ≡ Some fault) }
     {
         let bodies = bodies(&self.main, &self.routines);
         let entries = entries(&self.routines);
@@ -331,14 +318,13 @@ impl<A: Allocator> Draft<A> {
 
 impl<A: Allocator> LineTaker for Draft<A> {
     ghost use Rattle.declaration.specs.Lines.{line_of};
-    ghost use Rattle.declaration.specs.Drafts.{Adds};
 
     type Fault = DeclarationFault;
 
-    ghost takes = { λ old line new. Adds (gathered old) line (gathered new) };
+    ghost takes = { λ old line new. Adds (gathered old) (line_of line) (gathered new) };
 
     ghost refuses = { λ old number line fault _.
-        LineFails (gathered old) number (line_of line) fault };
+        IsRefused (gathered old) number (line_of line) fault };
 
     fn take(&mut self, number: usize, line: &[u8]) -> Result<(), DeclarationFault> {
         match read_line(line) {

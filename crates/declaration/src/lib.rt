@@ -1,12 +1,12 @@
 //! Declarations: as a text gives them, as they are kept, and their readers.
 #![tactic(auto)]
 
-ghost use Rattle.std.specs.Prelude.{ℕ, ◌≡◌, ◌≢◌, ◌⊎◌, ◌<◌, ◌≤◌, ◌↔◌, ◌==◌, ◌||◌, length, map, IsTrue, true, false, IfSome, IfNone, IfOk, IfErr, IsErrOf, None, Some, is_some};
+ghost use Rattle.std.specs.Prelude.{◌≡◌, ◌≢◌, ◌⊎◌, ◌≤◌, ◌↔◌, ◌==◌, ◌||◌, length, map, IsTrue, true, false, IfSome, IfNone, IfOk, IfErr, IsErrOf, None, Some, Ok, is_some};
 ghost use Rattle.std.specs.List.{find};
 ghost use Rattle.std.specs.Option.{option_map};
 ghost use Rattle.declaration.specs.Declaration.{Declaration as Declared, Routine as MainOrEntry, IsDeclared, IsListed};
-ghost use Rattle.declaration.specs.Text.{Declares, Fails, ListsRoutines, is_entry, most_bytes};
-ghost use Rattle.declaration.specs.Drafts.{gathered, HasLines};
+ghost use Rattle.declaration.specs.Text.{Declares, Fails, ListsRoutines, contents, most_bytes};
+ghost use Rattle.declaration.specs.Drafts.{gathered};
 ghost use Rattle.declaration.specs.declared.DeclarationFault.{DeclarationFault};
 ghost use Rattle.declaration.specs.declared.DeclarationFault.TheVariants.{NoMemory};
 ghost use Rattle.wordset.specs.Lanes.{words};
@@ -650,9 +650,7 @@ fn parse_lines<A: Allocator + Copy>(
 /// What the lines of a text that is not too long say together.
 fn read_lines<A: Allocator + Copy>(alloc: A, text: &[u8]) -> Result<Draft<A>, DeclarationFault>
     requires { length text.now ≤ most_bytes }
-    ensures found { IfOk result (λ draft. HasLines text.now (gathered draft)) }
-    ensures fit { IfOk result (λ draft.
-        (e : ℕ) → IsTrue (is_entry (gathered draft) e) → e < 4096) }
+    ensures found { IfOk result (λ draft. contents text.now ≡ Ok (gathered draft)) }
     ensures refused { IfErr result (Fails text.now) }
 {
     let mut draft = Draft::new(alloc);

@@ -1,13 +1,14 @@
 //! What the lines of a declaration say.
 
-ghost use Rattle.std.specs.Prelude.{◌≡◌, ◌<◌, ◌==◌, ◌||◌, [], ◌∷◌, IfSome, OnSome};
+ghost use Rattle.std.specs.Prelude.{◌≡◌, ◌<◌, ◌==◌, ◌||◌, [], ◌∷◌, codes, IfSome, OnSome};
 ghost use Rattle.streams.specs.Text.{octal_word};
 ghost use Rattle.std.specs.List.{after_first, before_first, find, position};
 ghost use Rattle.std.specs.Option.{option_map};
 ghost use Rattle.streams.specs.TextLeft.{words_left};
 ghost use Rattle.wordset.specs.Lanes.{words};
+ghost use Rattle.wordset.specs.Words.{one};
 ghost use Rattle.declaration.specs.DeclarationInCode.{offsets_of, assertion_of};
-ghost use Rattle.declaration.specs.Lines.{is_dash, range_of, address_of, offset_of, any_of, these, all_read, some_read, span, is_returns, body_read, offsets_read, routine, start_line, sub_line, profile_line, named_line, further_line, skips_line, every_offset, if_offsets, holds_line, returns_line, is_subject, addresses_of, offsets_named, assertion_in, named_assertion, asserted, link_of, bit_of, cell_assertion, line_of};
+ghost use Rattle.declaration.specs.Lines.{is_dash, range_of, address_of, offset_of, all_of, some_of, span, is_returns, body_read, start_line, sub_line, profile_line, further_line, skips_line, every_offset, if_offsets, holds_line, returns_line, is_subject, offsets_named, assertion_in, named_assertion, asserted, link_of, cell_assertion, line_by, line_of};
 ghost use Rattle.declaration.specs.Drafts.{cells_read, ranges_before, cells_before, said};
 
 use super::{
@@ -59,7 +60,7 @@ pub fn read_line(line: &[u8]) -> Option<DeclarationLine>
 
 /// What a line of this first word says.
 fn named_line(name: &[u8], rest: Words<'_>) -> Option<DeclarationLine>
-    ensures { option_map said result ≡ named_line name.now (words_left rest.entry) }
+    ensures { option_map said result ≡ line_by (name.now ∷ words_left rest.entry) }
 {
     if text::is(name, "start") {
         start_line(rest)
@@ -161,9 +162,8 @@ fn sub_line(rest: Words<'_>) -> Option<DeclarationLine>
 
 /// The routine of an entry and of what follows the word `body`.
 fn routine(entry: &[u8], rest: Words<'_>) -> Option<DeclarationLine>
-    ensures { let words = words_left rest.entry in
-        option_map said result ≡ routine (octal_word entry.now) (body_read words)
-        (offsets_read (after_first is_returns words)) }
+    ensures { option_map said result
+        ≡ sub_line (entry.now ∷ codes "body" ∷ words_left rest.entry) }
 {
     let mut words = rest;
     let Some(entry) = text::octal_word(entry) else {
@@ -197,8 +197,7 @@ fn body(rest: &mut Words<'_>) -> Option<WordSet>
 
 /// The same of ranges of which there may be none.
 fn body_cells(rest: &mut Words<'_>) -> Option<WordSet>
-    ensures cells { option_map words result
-        ≡ option_map any_of (ranges_before (words_left rest.old)) }
+    ensures cells { option_map words result ≡ ranges_before (words_left rest.old) }
     ensures rest { OnSome result
         (words_left rest.new ≡ after_first is_returns (words_left rest.old)) }
 {
@@ -217,7 +216,7 @@ fn body_cells(rest: &mut Words<'_>) -> Option<WordSet>
 
 /// The offsets, each one octal digit.
 fn offsets(rest: Words<'_>) -> Option<Offsets>
-    ensures { option_map offsets_of result ≡ offsets_read (words_left rest.entry) }
+    ensures { option_map offsets_of result ≡ all_of offset_of (words_left rest.entry) }
 {
     let mut words = rest;
     let mut offsets = Offsets {
@@ -234,7 +233,7 @@ fn offsets(rest: Words<'_>) -> Option<Offsets>
 
 /// The offset of one octal digit.
 fn offset(word: &[u8]) -> Option<Word>
-    ensures value { result ≡ offset_of word.now }
+    ensures value { option_map one result ≡ offset_of word.now }
     ensures small { IfSome result (λ at. at < 8) }
 {
     if word.len() == 1 {
@@ -256,8 +255,7 @@ impl Offsets {
 
 /// The cells of words, one or more.
 fn some_cells(form: Form, rest: Words<'_>) -> Option<WordSet>
-    ensures { option_map words result
-        ≡ option_map any_of (some_read (cells_read form) (words_left rest.entry)) }
+    ensures { option_map words result ≡ some_of (cells_read form) (words_left rest.entry) }
 {
     let mut ahead = rest;
     match ahead.next() {
@@ -268,8 +266,7 @@ fn some_cells(form: Form, rest: Words<'_>) -> Option<WordSet>
 
 /// The cells of words, of which there may be none.
 fn all_cells(form: Form, rest: Words<'_>) -> Option<WordSet>
-    ensures { option_map words result
-        ≡ option_map any_of (all_read (cells_read form) (words_left rest.entry)) }
+    ensures { option_map words result ≡ all_of (cells_read form) (words_left rest.entry) }
 {
     let mut words = rest;
     let mut set = WordSet::empty();
@@ -420,7 +417,7 @@ fn is_subject(word: &[u8]) -> bool
 /// The cells of addresses, one or more, up to the name of a subject.
 fn places(rest: Words<'_>) -> Option<WordSet>
     ensures { option_map words result
-        ≡ addresses_of (before_first is_subject (words_left rest.entry)) }
+        ≡ some_of address_of (before_first is_subject (words_left rest.entry)) }
 {
     let mut ahead = rest;
     match ahead.next() {
@@ -443,8 +440,7 @@ fn returned_by(rest: Words<'_>) -> Option<WordSet>
 
 /// The offsets up to the name of a subject, each of them one.
 fn offsets_before(rest: Words<'_>) -> Option<WordSet>
-    ensures { option_map words result
-        ≡ if_offsets (option_map any_of (cells_before (words_left rest.entry))) }
+    ensures { option_map words result ≡ if_offsets (cells_before (words_left rest.entry)) }
 {
     let Some(set) = cells_before(rest) else {
         return None;
@@ -454,7 +450,7 @@ fn offsets_before(rest: Words<'_>) -> Option<WordSet>
 
 /// The cells of addresses, of which there may be none, up to the name of a subject.
 fn cells_before(rest: Words<'_>) -> Option<WordSet>
-    ensures { option_map words result ≡ option_map any_of (cells_before (words_left rest.entry)) }
+    ensures { option_map words result ≡ cells_before (words_left rest.entry) }
 {
     let mut words = rest;
     let mut set = WordSet::empty();
@@ -538,7 +534,7 @@ fn link(rest: Words<'_>) -> Option<WordSet>
 
 /// The set of the bit that a word spells.
 fn bit(word: &[u8]) -> Option<WordSet>
-    ensures { option_map words result ≡ bit_of word.now }
+    ensures { option_map words result ≡ link_of (word.now ∷ []) }
 {
     if text::is(word, "0") {
         Some(WordSet::one(Word::from_index(0)))

@@ -6,6 +6,7 @@ use Rattle.wordset.specs.Words.{Words}
 use Rattle.peripherals.specs.Loading.{image_of}
 use Rattle.declaration.specs.Declaration.{Declaration}
 use Rattle.declaration.specs.Text.{Declares}
+use Rattle.declaration.proofs.AnswerLemmas.{declares_short}
 use Rattle.policy.specs.Runs.{IsSafe}
 use Rattle.command_parts.specs.declared.status.Status.{Status}
 use Rattle.command_parts.specs.declared.status.Status.TheVariants.{Done, Refused}
@@ -83,4 +84,4 @@ completes_by reads image bytes given proposed status text off by = record {
 -- a text that was read up to one byte more than a declaration may have is everything that its source had
 pub whole_text : (had : Option (List ℕ)) (text : List ℕ) (d : Declaration) → IfSome had (λ bytes. text ≡ take 16385 bytes) → Declares text d → IfSome had (λ bytes. bytes ≡ text)
 whole_text had text d is declares =
-    all_or_more (λ bytes. bytes ≡ text) had text 16384 is refl (λ bytes long more e. absurd (let short = declares.good.short in omega (arith, short, long)))
+    all_or_more (λ bytes. bytes ≡ text) had text 16384 is refl (λ bytes long more e. absurd (let short = declares_short text d declares in omega (arith, short, long)))

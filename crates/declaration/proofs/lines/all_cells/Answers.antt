@@ -1,12 +1,12 @@
 use Rattle.streams.specs.TextLeft.{words_left}
 use Rattle.wordset.specs.Lanes.{words}
-use Rattle.declaration.specs.Lines.{all_read}
+use Rattle.declaration.specs.Lines.{all_of}
 use Rattle.declaration.specs.Drafts.{cells_read}
 use Rattle.declaration.proofs.LineLemmas.{cells_start, cells_step, cells_fail, cells_end}
 use Rattle.declaration.proofs.lines.all_cells.Goals as goal
 
 pub loop-word-init : goal.loop-word-init
-loop-word-init c = cells_start (words c.empty-set.result) (all_read (cells_read c.args.form) (words_left c.args.rest)) c.empty-set.ensures
+loop-word-init c = cells_start (words c.empty-set.result) (all_of (cells_read c.args.form) (words_left c.args.rest)) c.empty-set.ensures
 
 pub loop-word-preserved : goal.loop-word-preserved
 loop-word-preserved c =

@@ -1,8 +1,7 @@
 use Rattle.std.proofs.Common.{◌≡◌}
-use Rattle.std.specs.Option.{option_map}
 use Rattle.streams.specs.TextLeft.{words_left}
 use Rattle.wordset.specs.Lanes.{words}
-use Rattle.declaration.specs.Lines.{any_of, all_read}
+use Rattle.declaration.specs.Lines.{all_of}
 use Rattle.declaration.specs.Drafts.{cells_read}
 use Rattle.declaration.proofs.LineLemmas.{with_cells}
 use Rattle.declaration.proofs.lines.all_cells.Given as goal
@@ -10,4 +9,4 @@ use Rattle.declaration.proofs.lines.all_cells.Given as goal
 -- the cells so far with those still to be read are all
 abbrev pub invariant-loop-word : goal.invariant-loop-word
 invariant-loop-word l =
-    with_cells (words l.set) (all_read (cells_read l.form) (words_left l.words)) ≡ option_map any_of (all_read (cells_read l.form) (words_left l.rest))
+    with_cells (words l.set) (all_of (cells_read l.form) (words_left l.words)) ≡ all_of (cells_read l.form) (words_left l.rest)

@@ -1,8 +1,6 @@
 use Rattle.std.proofs.Common.{◌≡◌}
-use Rattle.std.specs.Option.{option_map}
 use Rattle.streams.specs.TextLeft.{words_left}
 use Rattle.wordset.specs.Lanes.{words}
-use Rattle.declaration.specs.Lines.{any_of}
 use Rattle.declaration.specs.Drafts.{cells_before}
 use Rattle.declaration.proofs.LineLemmas.{with_cells}
 use Rattle.declaration.proofs.lines.cells_before.Given as goal
@@ -10,4 +8,4 @@ use Rattle.declaration.proofs.lines.cells_before.Given as goal
 -- the cells so far with those still to be read are all
 abbrev pub invariant-loop-word : goal.invariant-loop-word
 invariant-loop-word l =
-    with_cells (words l.set) (cells_before (words_left l.words)) ≡ option_map any_of (cells_before (words_left l.rest))
+    with_cells (words l.set) (cells_before (words_left l.words)) ≡ cells_before (words_left l.rest)

@@ -67,35 +67,35 @@ pub word : (n : ℕ) → Part 4 (octal_text n)
 word n = record { feed = (λ z. omega arith, (λ z. omega arith, (λ z. omega arith, (λ z. omega arith, tt)))); short = omega arith }
 
 -- A run takes at most ten bytes for each three words, with its comma and the gap after it.
-run_short : (r : Run) → r.first ≤ r.last → 3 * length (run_text r.first r.last) + 10 * r.first + 3 ≤ 10 * (r.last + 2)
+run_short : (r : Run) → r.first ≤ r.last → 3 * length (run_text octal_text r.first r.last) + 10 * r.first + 3 ≤ 10 * (r.last + 2)
 run_short r order = elim (cases_lt r.first r.last) [
   | inl h ↦ (let e : (r.first == r.last) ≡ false = ne_eqb r.first r.last (λ z. omega arith) in rw e (omega arith))
   | inr h ↦ (let e : (r.first == r.last) ≡ true = eq-eqb r.first r.last (omega arith) in rw e (omega arith))
 ]
 
-more_short : (n : ℕ) (rs : List Run) → n ≤ 4097 → StandApart n rs → 3 * length (more_text rs) + 10 * n ≤ 40970
+more_short : (n : ℕ) (rs : List Run) → n ≤ 4097 → StandApart n rs → 3 * length (more_text octal_text rs) + 10 * n ≤ 40970
 more_short n [] few h = omega arith
 more_short n (r ∷ rs) few h =
     let a : n ≤ r.first = h.0 in
     let b : r.last < 4096 = h.2 in
-    let c : 3 * length (run_text r.first r.last) + 10 * r.first + 3 ≤ 10 * (r.last + 2) = run_short r h.1 in
-    let d : 3 * length (more_text rs) + 10 * (r.last + 2) ≤ 40970 = more_short (r.last + 2) rs (omega arith) h.3 in
-    omega (arith, length-append (run_text r.first r.last) (more_text rs))
+    let c : 3 * length (run_text octal_text r.first r.last) + 10 * r.first + 3 ≤ 10 * (r.last + 2) = run_short r h.1 in
+    let d : 3 * length (more_text octal_text rs) + 10 * (r.last + 2) ≤ 40970 = more_short (r.last + 2) rs (omega arith) h.3 in
+    omega (arith, length-append (run_text octal_text r.first r.last) (more_text octal_text rs))
 
-run_feed : (low high : ℕ) → NoFeed (run_text low high)
+run_feed : (low high : ℕ) → NoFeed (run_text octal_text low high)
 unfolding feedless
 run_feed low high = (both (word low) (choice (low == high) none (both (as_is (codes "-") refl) (word high)))).feed
 
-more_feed : (rs : List Run) → NoFeed (more_text rs)
+more_feed : (rs : List Run) → NoFeed (more_text octal_text rs)
 more_feed [] = tt
-more_feed (r ∷ rs) = ((λ z. omega arith), no_feed_both (run_text r.first r.last) (more_text rs) (run_feed r.first r.last) (more_feed rs))
+more_feed (r ∷ rs) = ((λ z. omega arith), no_feed_both (run_text octal_text r.first r.last) (more_text octal_text rs) (run_feed r.first r.last) (more_feed rs))
 
 -- The parts of a line.
 pub set : (s : Words) → Part 13656 (set_text s)
 set s = elim (by_words s) [
   | inl f ↦ (
-      let a : 3 * length (more_text (f.runs.first ∷ f.runs.more)) + 10 * 0 ≤ 40970 = more_short 0 (f.runs.first ∷ f.runs.more) (omega arith) f.runs.apart in
-      rw f.text (record { feed = (more_feed (f.runs.first ∷ f.runs.more)).1; short = omega (arith, a) }))
+      let a : 3 * length (more_text octal_text (f.first ∷ f.more)) + 10 * 0 ≤ 40970 = more_short 0 (f.first ∷ f.more) (omega arith) f.apart in
+      rw f.text_is (record { feed = (more_feed (f.first ∷ f.more)).1; short = omega (arith, a) }))
   | inr empty ↦ rw (empty_text s empty) (record { feed = ((λ z. omega arith), tt); short = omega arith })
 ]
 

@@ -5,6 +5,7 @@ use Rattle.std.proofs.lemmas.Bool.{true≢false, ne_eqb, cases_lt}
 use Rattle.std.proofs.lemmas.List.{take_all, length-take, take-append-le}
 use Rattle.std.proofs.Math.Seq.{take-append-add}
 use Rattle.streams.specs.Bytes.{AppendsFront}
+use Rattle.word12.specs.Words.{octal_text}
 use Rattle.wordset.specs.Words.{Words, all_words, difference, IsFirstFrom, HasNoneFrom}
 use Rattle.certificate_lines.specs.FieldSpelling.{marks, set_text, digits}
 use Rattle.certificate_lines.specs.FieldsLeft.{run_text}
@@ -44,28 +45,28 @@ whole xs ys text none h a b =
 
 -- Runs as far as they're written, and whether a comma comes next.
 pub record RunsWritten (old now : List ℕ) (rs : List Run) (n : ℕ) : Type 0 where
-  pub adds : Adds old now (runs_text rs)
+  pub adds : Adds old now (runs_text octal_text rs)
   pub comma_is : (if n == 0 then [] else 44 ∷ []) ≡ comma rs
 
 pub runs_begun : (old : List ℕ) → RunsWritten old old [] 0
 runs_begun old = record { adds = none old; comma_is = refl }
 
 run_written : (old now mid new : List ℕ) (rs : List Run) (n : ℕ) (r : Run) → RunsWritten old now rs n →
-    Adds now mid (if n == 0 then [] else 44 ∷ []) → Adds mid new (run_text r.first r.last) → RunsWritten old new (rs ++ r ∷ []) (r.last + 2)
+    Adds now mid (if n == 0 then [] else 44 ∷ []) → Adds mid new (run_text octal_text r.first r.last) → RunsWritten old new (rs ++ r ∷ []) (r.last + 2)
 run_written old now mid new rs n r h a b =
     let c : Adds now mid (comma rs) = rw h.comma_is at a in
     record {
-      adds = rw (runs_more rs r) (joined old mid new (runs_text rs ++ comma rs) (run_text r.first r.last) (joined old now mid (runs_text rs) (comma rs) h.adds c) b);
+      adds = rw (runs_more octal_text rs r) (joined old mid new (runs_text octal_text rs ++ comma rs) (run_text octal_text r.first r.last) (joined old now mid (runs_text octal_text rs) (comma rs) h.adds c) b);
       comma_is = rw (ne_eqb (r.last + 2) 0 (λ z. omega arith), has_more rs r) refl;
     }
 
 pub one_written : (old now mid new : List ℕ) (rs : List Run) (n i : ℕ) (r : Run) → i < length rs → r ≡ get_or rs i r → RunsWritten old now (take i rs) n →
-    Adds now mid (if n == 0 then [] else 44 ∷ []) → Adds mid new (run_text r.first r.last) → RunsWritten old new (take (i + 1) rs) (r.last + 2)
+    Adds now mid (if n == 0 then [] else 44 ∷ []) → Adds mid new (run_text octal_text r.first r.last) → RunsWritten old new (take (i + 1) rs) (r.last + 2)
 one_written old now mid new rs n i r h is w a b = rw (taken rs i r h is) (run_written old now mid new (take i rs) n r w a b)
 
-pub runs_written : (old now : List ℕ) (rs : List Run) (n i : ℕ) → StandApart 0 rs → length rs ≤ i → RunsWritten old now (take i rs) n → Adds old now (marks 4096 (set_of_runs rs))
+pub runs_written : (old now : List ℕ) (rs : List Run) (n i : ℕ) → StandApart 0 rs → length rs ≤ i → RunsWritten old now (take i rs) n → Adds old now (marks octal_text 4096 (set_of_runs rs))
 runs_written old now rs n i apart h w =
-    let e : runs_text (take i rs) ≡ marks 4096 (set_of_runs rs) = ap runs_text (take_all i rs h) ∙ sym (text_of rs apart) in
+    let e : runs_text octal_text (take i rs) ≡ marks octal_text 4096 (set_of_runs rs) = ap (runs_text octal_text) (take_all i rs h) ∙ sym (text_of rs apart) in
     rw e at w.adds
 
 -- A set as far as it's written: its runs before a word.
@@ -75,20 +76,20 @@ pub record SetSofar (old now : List ℕ) (s : Words) (n : ℕ) : Type 0 where
   pub written : RunsWritten old now runs n
 
 pub set_more : (old now mid new : List ℕ) (s others : Words) (n : ℕ) (r : Run) → SetSofar old now s n → IsFirstFrom n s r.first → IsLastOf others r.first r.last →
-    others ≡ difference all_words s → Adds now mid (if n == 0 then [] else 44 ∷ []) → Adds mid new (run_text r.first r.last) → SetSofar old new s (r.last + 2)
+    others ≡ difference all_words s → Adds now mid (if n == 0 then [] else 44 ∷ []) → Adds mid new (run_text octal_text r.first r.last) → SetSofar old new s (r.last + 2)
 set_more old now mid new s others n r h f l are a b = record {
   runs = h.runs ++ r ∷ [];
   closed = found_run s others h.runs n r h.closed f l are;
   written = run_written old now mid new h.runs n r h.written a b;
 }
 
-pub set_written : (old now : List ℕ) (s : Words) (n : ℕ) → SetSofar old now s n → HasNoneFrom n s → Adds old now (marks 4096 s)
+pub set_written : (old now : List ℕ) (s : Words) (n : ℕ) → SetSofar old now s n → HasNoneFrom n s → Adds old now (marks octal_text 4096 s)
 set_written old now s n h none =
-    let e : marks 4096 s ≡ runs_text h.runs = text_all s h.runs (closed_apart s h.runs n n h.closed) (closed_all s h.runs n n h.closed none) in
+    let e : marks octal_text 4096 s ≡ runs_text octal_text h.runs = text_all octal_text s h.runs (closed_apart s h.runs n n h.closed) (closed_all s h.runs n n h.closed none) in
     rw e h.written.adds
 
 -- The text of a set with a run.
-pub full_written : (old now : List ℕ) (rs : List Run) → false ≡ (length rs == 0) → StandApart 0 rs → Adds old now (marks 4096 (set_of_runs rs)) →
+pub full_written : (old now : List ℕ) (rs : List Run) → false ≡ (length rs == 0) → StandApart 0 rs → Adds old now (marks octal_text 4096 (set_of_runs rs)) →
     Adds old now (set_text (set_of_runs rs))
 full_written old now [] some h a = absurd (true≢false (sym some))
 full_written old now (r ∷ rs) some h a = rw (some_runs 0 r rs h) a

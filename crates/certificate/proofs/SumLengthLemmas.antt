@@ -9,30 +9,30 @@ use Rattle.domain.specs.Chains.{Step, Operates, Ands, Adds, Chain}
 use Rattle.domain.specs.Facts.{Relation}
 use Rattle.certificate_lines.specs.declared.Version.{Version}
 use Rattle.certificate_lines.specs.declared.Version.TheVariants.{One, Two, Three}
-use Rattle.certificate_lines.specs.FieldSpelling.{Registers, begins, ends}
+use Rattle.certificate_lines.specs.FieldSpelling.{Registers, begins, ends, mark, marks, rank_text}
 use Rattle.certificate_lines.specs.LineFeeds.{NoFeed}
 use Rattle.certificate_lines.specs.Lines.{Line, RoutineIs, FactIs, ExitIs, CellIs, SumIs, ChainIs, End}
-use Rattle.certificate_lines.specs.Spelling.{offset_mark, offset_marks, offsets_line, offset_text, sites_text, mq_text, words_text, term_text, coefficient_text, further_text, sum_text, names_text, word_text, equation_line, relation_line, step_text, line_text, version_text}
+use Rattle.certificate_lines.specs.Spelling.{offsets_line, offset_text, sites_text, mq_text, words_text, term_text, coefficient_text, further_text, sum_text, names_text, word_text, equation_line, relation_line, step_text, line_text, version_text}
 use Rattle.certificate_lines.specs.LineOf.{has_form}
 use Rattle.certificate.proofs.LengthLemmas.{Part, feedless, no_feeds, both, most, choice, none, as_is, digit, word, set, digits_of, name, rank}
 use Rattle.certificate_lines.proofs.SumFieldLemmas.{shape_of}
 
-mark : (s : Words) (o : ℕ) → Part 6 (offset_mark s o)
+mark_short : (s : Words) (o : ℕ) → Part 6 (mark rank_text s o)
 unfolding feedless
-mark s o =
+mark_short s o =
     both (choice (begins s o) (both (choice (some_below o s) (as_is (codes ",") refl) none) (rank o)) none)
     (choice (ends s o && not (begins s o)) (both (as_is (codes "-") refl) (rank o)) none)
 
-marks : (n : ℕ) (s : Words) → Part (6 * n) (offset_marks n s)
-unfolding offset_marks
-marks zero s = none
-marks (suc n) s = most (both (marks n s) (mark s n)) (omega arith)
+marks_short : (n : ℕ) (s : Words) → Part (6 * n) (marks rank_text n s)
+unfolding marks
+marks_short zero s = none
+marks_short (suc n) s = most (both (marks_short n s) (mark_short s n)) (omega arith)
 
 offsets : (v : Version) (s : Words) → Part 384 (offsets_line v s)
 unfolding feedless
 offsets One s = choice (some_below 8 s) (most (digits_of 8 s) (omega arith)) (most (as_is (codes "-") refl) (omega arith))
 offsets Two s = choice (some_below 8 s) (most (digits_of 8 s) (omega arith)) (most (as_is (codes "-") refl) (omega arith))
-offsets Three s = choice (some_below 64 s) (marks 64 s) (most (as_is (codes "-") refl) (omega arith))
+offsets Three s = choice (some_below 64 s) (marks_short 64 s) (most (as_is (codes "-") refl) (omega arith))
 
 offset : (v : Version) (o : ℕ) → Part 2 (offset_text v o)
 offset One o = most (digit o) (omega arith)

@@ -24,6 +24,7 @@ use Rattle.certificate_lines.specs.Packed.{Packed, said_lines}
 use Rattle.certificate_lines.specs.Spelled.{all_ended}
 use Rattle.certificate_lines.specs.CertificateInCode.{Kept, meaning}
 use Rattle.certificate_lines.specs.Made.{details_of, lines_of_fact, lines_of_exit, before_end, with_lines, MayAdd, AreDetails}
+use Rattle.certificate_lines.proofs.SumReaderLemmas.{each_followed}
 use Rattle.certificate_lines.proofs.SumTextLemmas.{both_ended}
 use Rattle.certificate_lines.proofs.SumWholeLemmas.{newest_both, followed, whole}
 
@@ -113,11 +114,6 @@ pub may_add_exit : (a b : Kept) → a ≡ b → (x o : ℕ) (f : SumFact 64 32) 
     MayAdd (meaning a) (lines_of_exit (meaning a).version x o f)
 may_add_exit a b e x o f m = subst (λ (k : Kept). MayAdd (meaning k) (lines_of_exit (meaning k).version x o f)) (sym e) m
 
--- What may follow is of its form.
-lines_formed : (v : Version) (before ls : List Line) → Follow v before ls → Each (IsLine v) ls
-lines_formed v before [] f = tt
-lines_formed v before (l ∷ ls) f = (f.0, lines_formed v (l ∷ before) ls f.2)
-
 each_parts : {A : Type 0} (p : A → Type 0) (xs ys : List A) → Each p (xs ++ ys) → Each p xs × Each p ys
 each_parts p [] ys h = (tt, h)
 each_parts p (x ∷ xs) ys h = let r = each_parts p xs ys h.1 in ((h.0, r.0), r.1)
@@ -140,7 +136,7 @@ steps_formed v (c ∷ cs) h = (few_steps v c h.0.0, steps_formed v cs h.1)
 
 pub details : (v : Version) (ls : List Line) (head : Line) (f : SumFact 64 32) → MayAdd (text_of_kept v ls) (head ∷ details_of f) → AreDetails f
 details v ls head f m =
-    let all = (lines_formed v (newest_first [] ls) (head ∷ details_of f) (may_follow v ls (head ∷ details_of f) m)).1 in
+    let all = (each_followed v (newest_first [] ls) (head ∷ details_of f) (may_follow v ls (head ∷ details_of f) m)).1 in
     let outer = each_parts (IsLine v) (map CellIs (cell_sets_of f.cells) ++ map SumIs (fact_in_code f).relations) (map ChainIs (fact_in_code f).chains) all in
     let inner = each_parts (IsLine v) (map CellIs (cell_sets_of f.cells)) (map SumIs (fact_in_code f).relations) outer.0 in
     record { sums = sums_formed v (fact_in_code f).relations inner.1; steps = steps_formed v (fact_in_code f).chains outer.1 }

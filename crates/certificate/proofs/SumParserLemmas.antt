@@ -20,7 +20,8 @@ use Rattle.certificate_lines.specs.Found.{AreInOrder, Keeps, IsWhole, unended}
 use Rattle.certificate_lines.specs.Reading.{Text, Progress as ReadingProgress, Start, After, Failed, after_line, at_last, answer_from, reading}
 use Rattle.certificate_lines.specs.Serving.{Settles, AsksForMemory, front}
 use Rattle.certificate_lines.specs.CertificateInCode.{Kept as KeptCertificate}
-use Rattle.certificate.specs.Parser.{NoFeed, Reached, HasRead, WasRead, Parts, Seen, Refuses, IsParsed}
+use Rattle.certificate_lines.specs.LineFeeds.{NoFeed}
+use Rattle.certificate.specs.Parser.{Reached, HasRead, WasRead, Parts, Seen, Refuses, IsParsed}
 use Rattle.certificate.proofs.LengthLemmas.{no_feed_both}
 use Rattle.certificate.proofs.SumLengthLemmas.{line_short}
 use Rattle.certificate_lines.proofs.SumTextLemmas.{no_line_of, bad_line, no_version, end_on, few_read}
@@ -237,9 +238,6 @@ passed kept text line new_line bytes piece progress long h n fits = record {
     longer : (c : Bool) → long ≡ c → 49152 < length (h.tail ++ piece)
     longer true q = let z : 49152 < length h.tail = h.long q in omega (arith, length-append h.tail piece)
     longer false q = let z : length line ≡ length h.tail = ap length (h.same q) in omega (arith, length-append h.tail piece)
-
-pub is_full : (n most : ℕ) → true ≡ (n == most) → most ≤ n
-is_full n most e = let z : n ≡ most = eqb-true n most (sym e) in omega arith
 
 -- The bytes have no whole line.
 pub no_lines : (kept : Packed) (text line bytes : List ℕ) (o : Option Progress) (long : Bool) → o ≡ None → Parts text kept o line long bytes → length bytes ≤ most_bytes →

@@ -20,7 +20,8 @@ use Rattle.certificate_lines.specs.Packed.{Packed}
 use Rattle.certificate_lines.specs.Order.{oldest}
 use Rattle.certificate_lines.specs.Reading.{Text, at_last, reading}
 use Rattle.certificate_lines.specs.CertificateInCode.{Kept}
-use Rattle.certificate.specs.Parser.{NoFeed, HasRead, CameTo, Told, IsAnswered, Serves, Parts, Seen, IsSmall, Refuses, IsParsed}
+use Rattle.certificate_lines.specs.LineFeeds.{NoFeed}
+use Rattle.certificate.specs.Parser.{HasRead, CameTo, Told, IsAnswered, Serves, Parts, Seen, IsSmall, Refuses, IsParsed}
 use Rattle.certificate_lines.specs.Serving.{Settles, IsUnanswered, AsksForMemory}
 use Rattle.certificate.proofs.LengthLemmas.{feed_taken}
 use Rattle.certificate.proofs.SumAnswerLemmas.{fault_of_bytes}

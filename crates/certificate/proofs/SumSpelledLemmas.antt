@@ -14,14 +14,14 @@ use Rattle.streams.specs.Bytes.{AppendsFront}
 use Rattle.streams.proofs.BytesLemmas.{front_after}
 use Rattle.certificate_lines.specs.declared.Version.{Version}
 use Rattle.certificate_lines.specs.RisingLists.{Each}
-use Rattle.certificate_lines.specs.FieldSpelling.{begins, ends, digits, offsets_text, ended}
+use Rattle.certificate_lines.specs.FieldSpelling.{begins, ends, mark, marks, digits, rank_text, offset_set_text, offsets_text, ended}
 use Rattle.certificate_lines.specs.Lines.{Line}
 use Rattle.certificate_lines.specs.Spelled.{all_ended}
 use Rattle.certificate_lines.specs.LineText.{Adds}
-use Rattle.certificate_lines.specs.Spelling.{offset_mark, offset_marks, coefficient_text, step_text, line_text}
-use Rattle.certificate_lines.specs.Fields.{offset_set_text, third_text}
+use Rattle.certificate_lines.specs.Spelling.{coefficient_text, step_text, line_text}
+use Rattle.certificate_lines.specs.Fields.{third_text}
 use Rattle.certificate.proofs.SpelledLemmas.{joined, none, front_more}
-use Rattle.certificate_lines.proofs.OffsetTextLemmas.{marks_more}
+use Rattle.certificate_lines.proofs.SetLemmas.{marks_more}
 
 -- Offsets looked through one by one.
 pub none_yet : (s : Words) (v : ℕ) → v < 0 → s v ≡ false
@@ -37,20 +37,20 @@ pub none_at_all : (s : Words) (m n : ℕ) → m ≤ n → ((v : ℕ) → v < n �
 none_at_all s m n le h = sym (some_none_of m s (λ v a. h v (omega arith)))
 
 -- Offsets written one by one.
-pub mark_none : (s : Words) (a : ℕ) → begins s a ≡ false → ends s a ≡ false → offset_mark s a ≡ []
+pub mark_none : (s : Words) (a : ℕ) → begins s a ≡ false → ends s a ≡ false → mark rank_text s a ≡ []
 mark_none s a e f = rw (e, f) refl
 
-marks_none : (s : Words) → offset_marks 0 s ≡ []
-unfolding offset_marks
+marks_none : (s : Words) → marks rank_text 0 s ≡ []
+unfolding marks
 marks_none s = refl
 
-pub marks_begun : (old : List ℕ) (s : Words) → Adds old old (offset_marks 0 s)
+pub marks_begun : (old : List ℕ) (s : Words) → Adds old old (marks rank_text 0 s)
 marks_begun old s = rw (marks_none s) (none old)
 
-pub mark_written : (old now new : List ℕ) (s : Words) (n : ℕ) → Adds old now (offset_marks n s) → Adds now new (offset_mark s n) → Adds old new (offset_marks (n + 1) s)
-mark_written old now new s n h k = rw (marks_more n s) (joined old now new (offset_marks n s) (offset_mark s n) h k)
+pub mark_written : (old now new : List ℕ) (s : Words) (n : ℕ) → Adds old now (marks rank_text n s) → Adds now new (mark rank_text s n) → Adds old new (marks rank_text (n + 1) s)
+mark_written old now new s n h k = rw (marks_more rank_text n s) (joined old now new (marks rank_text n s) (mark rank_text s n) h k)
 
-pub marks_done : (old now : List ℕ) (s : Words) (n : ℕ) → 64 ≤ n → n ≤ 64 → (((o : ℕ) → o < 64 → s o ≡ false) → IsTrue false) → Adds old now (offset_marks n s) → Adds old now (offset_set_text s)
+pub marks_done : (old now : List ℕ) (s : Words) (n : ℕ) → 64 ≤ n → n ≤ 64 → (((o : ℕ) → o < 64 → s o ≡ false) → IsTrue false) → Adds old now (marks rank_text n s) → Adds old now (offset_set_text s)
 marks_done old now s n a b some h = elim (cases_Bool (some_below 64 s)) [
   | inl t ↦ (let e : n ≡ 64 = omega arith in rw t (rw e at h))
   | inr f ↦ absurd (false≢true (some (λ o small. none_of_some 64 s f o small)))

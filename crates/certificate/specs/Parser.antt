@@ -1,5 +1,5 @@
 -- What the parser of a text has seen, in all versions, and what reading in pieces keeps; for private contracts.
-use Rattle.std.specs.Prelude.{◌≡◌, ◌≢◌, ℕ, ◌+◌, ◌<◌, ◌≤◌, ◌⊎◌, Bool, true, false, List, [], ◌∷◌, ◌++◌, length, take, Option, Some, None, IfSome, Result, Ok, Err, MatchResult}
+use Rattle.std.specs.Prelude.{◌≡◌, ℕ, ◌+◌, ◌<◌, ◌≤◌, ◌⊎◌, Bool, true, false, List, [], ◌∷◌, ◌++◌, length, take, Option, Some, None, IfSome, Result, Ok, Err, MatchResult}
 use Rattle.std.specs.Io.KnownBytes.{Consumes, IsAtEnd}
 use Rattle.certificate_lines.specs.declared.CertificateFault.{CertificateFault}
 use Rattle.certificate_lines.specs.declared.CertificateFault.TheVariants.{NoMemory, ReadFault}
@@ -8,16 +8,12 @@ use Rattle.certificate.specs.declared.parser.Parser.{Parser}
 use Rattle.certificate_lines.specs.Lines.{Line}
 use Rattle.certificate_lines.specs.Found.{AreInOrder, Keeps, unended}
 use Rattle.certificate_lines.specs.Progress.{Tracks}
+use Rattle.certificate_lines.specs.LineFeeds.{NoFeed}
 use Rattle.certificate_lines.specs.Pieces.{most_bytes}
 use Rattle.certificate_lines.specs.Packed.{Packed}
 use Rattle.certificate_lines.specs.CertificateInCode.{Kept, meaning}
 use Rattle.certificate_lines.specs.Reading.{reading}
 use Rattle.certificate_lines.specs.Serving.{Settles, IsUnanswered, AsksForMemory, front}
-
--- No byte is a line feed.
-abbrev pub NoFeed : List ℕ → Type 0
-NoFeed [] = Unit {0}
-NoFeed (c ∷ cs) = (c ≢ 10) × NoFeed cs
 
 -- Lines in order of which the text is this and what is kept is that.
 pub record Reached (p : Progress) (text : List ℕ) (kept : Packed) : Type 0 where

@@ -88,7 +88,7 @@ impl LineText {
 
     /// Adds a run of words: its first one, and its last one where that is another.
     fn run(&mut self, low: Word, high: Word)
-        ensures { Adds self.old.bytes.items self.new.bytes.items (run_text low high) }
+        ensures { Adds self.old.bytes.items self.new.bytes.items (run_text octal_text low high) }
     {
         self.word(low);
         if low != high {
@@ -111,7 +111,7 @@ impl LineText {
     fn runs(&mut self, runs: &[Run])
         requires { StandApart 0 runs.now }
         ensures { Adds self.old.bytes.items self.new.bytes.items
-            (marks 4096 (set_of_runs runs.now)) }
+            (marks octal_text 4096 (set_of_runs runs.now)) }
     {
         let mut next = 0;
         for run in runs {
@@ -124,7 +124,7 @@ impl LineText {
     /// Adds a set by its maximal runs, which are looked for.
     #[inline(never)]
     fn words(&mut self, set: &WordSet)
-        ensures { Adds self.old.bytes.items self.new.bytes.items (marks 4096 (words set.now)) }
+        ensures { Adds self.old.bytes.items self.new.bytes.items (marks octal_text 4096 (words set.now)) }
     {
         let others = WordSet::all().minus(set);
         let mut next = 0;

@@ -7,7 +7,8 @@ ghost use Rattle.certificate_lines.specs.Spelling.{version_text};
 ghost use Rattle.certificate_lines.specs.Pieces.{most_bytes};
 ghost use Rattle.certificate_lines.specs.Reading.{reading};
 ghost use Rattle.certificate_lines.specs.Packed.{Packed};
-ghost use Rattle.certificate.specs.Parser.{NoFeed, WasRead, Parts, Seen, IsSmall, Refuses, IsParsed};
+ghost use Rattle.certificate_lines.specs.LineFeeds.{NoFeed};
+ghost use Rattle.certificate.specs.Parser.{WasRead, Parts, Seen, IsSmall, Refuses, IsParsed};
 
 use crate::Certificate;
 use arrayvec::ArrayVec;

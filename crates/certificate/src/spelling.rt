@@ -8,15 +8,15 @@ ghost use Rattle.wordset.specs.Links.{links_of};
 ghost use Rattle.domain.specs.InCode.{term_of, summand_of};
 ghost use Rattle.domain.specs.ChainsInCode.{step_of};
 ghost use Rattle.domain.specs.Offsets.{offsets_in};
-ghost use Rattle.certificate_lines.specs.FieldSpelling.{begins, ends, offsets_text, set_text, rank_text, ended};
+ghost use Rattle.certificate_lines.specs.FieldSpelling.{begins, ends, mark, offset_set_text, offsets_text, set_text, rank_text, ended};
 ghost use Rattle.certificate_lines.specs.RisingLists.{Each};
 ghost use Rattle.certificate_lines.specs.LineText.{Adds};
 ghost use Rattle.certificate_lines.specs.Runs.{set_of_runs, set_at, registers_at, AreWithin};
 ghost use Rattle.domain.specs.declared.chains.Step.{Step};
 ghost use Rattle.certificate_lines.specs.declared.packed.PackedLine.TheVariants as packed;
-ghost use Rattle.certificate_lines.specs.Spelling.{offset_mark, offsets_line, offset_text, sites_text, mq_text, words_text, term_text, coefficient_text, further_text, sum_text, equation_line, relation_line, step_text, chain_line, line_text, version_text, word_text};
+ghost use Rattle.certificate_lines.specs.Spelling.{offsets_line, offset_text, sites_text, mq_text, words_text, term_text, coefficient_text, further_text, sum_text, equation_line, relation_line, step_text, chain_line, line_text, version_text, word_text};
 ghost use Rattle.certificate_lines.specs.LineOf.{most_offsets};
-ghost use Rattle.certificate_lines.specs.Fields.{offset_set_text, third_text};
+ghost use Rattle.certificate_lines.specs.Fields.{third_text};
 ghost use Rattle.certificate_lines.specs.Packed.{packed_sum_of, said_at, said_of, said_lines, LiesWithin, LieWithin};
 ghost use Rattle.certificate_lines.specs.Found.{IsLine};
 ghost use Rattle.certificate_lines.specs.Spelled.{all_ended};
@@ -100,7 +100,7 @@ impl LineText {
     /// before; where one ends that has more its last one, after a dash.
     fn offset_mark(&mut self, offsets: ReturnOffsets, offset: usize)
         requires { offset < 64 }
-        ensures { Adds self.old.bytes.items self.new.bytes.items (offset_mark (offsets_in offsets) offset) }
+        ensures { Adds self.old.bytes.items self.new.bytes.items (mark rank_text (offsets_in offsets) offset) }
     {
         if is_first(offsets, offset) {
             self.first_offset(offsets, offset);

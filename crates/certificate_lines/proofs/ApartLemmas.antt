@@ -12,14 +12,19 @@ use Rattle.certificate_lines.specs.LineText.{IsLastOf}
 use Rattle.certificate_lines.specs.Runs.{joined, set_of_runs, added, StandApart}
 use Rattle.certificate_lines.proofs.PackedLemmas.{joined_more, or_with, in_between, below_between, above_between, still_in, set_is}
 
--- The text of runs: each one after the first has a comma before it.
-abbrev pub more_text : List Run → List ℕ
-more_text [] = []
-more_text (r ∷ rs) = 44 ∷ (run_text r.first r.last ++ more_text rs)
+-- The text of runs of numbers that have this text: each run after the first has a comma before it.
+abbrev pub more_text : (ℕ → List ℕ) → List Run → List ℕ
+more_text text [] = []
+more_text text (r ∷ rs) = 44 ∷ (run_text text r.first r.last ++ more_text text rs)
 
-abbrev pub runs_text : List Run → List ℕ
-runs_text [] = []
-runs_text (r ∷ rs) = run_text r.first r.last ++ more_text rs
+abbrev pub runs_text : (ℕ → List ℕ) → List Run → List ℕ
+runs_text text [] = []
+runs_text text (r ∷ rs) = run_text text r.first r.last ++ more_text text rs
+
+-- Each run ends before a number.
+abbrev pub AllBelow : ℕ → List Run → Type 0
+AllBelow n [] = Unit {0}
+AllBelow n (r ∷ rs) = (r.last < n) × AllBelow n rs
 
 -- There are runs; and what is written after them before a further one.
 abbrev pub has : List Run → Bool
@@ -33,18 +38,18 @@ pub has_more : (rs : List Run) (r : Run) → has (rs ++ r ∷ []) ≡ true
 has_more [] r = refl
 has_more (x ∷ rs) r = refl
 
-more_on : (rs : List Run) (r : Run) → more_text (rs ++ r ∷ []) ≡ more_text rs ++ 44 ∷ run_text r.first r.last
-more_on [] r = ap (λ (y : List ℕ). 44 ∷ y) (append-nil (run_text r.first r.last))
-more_on (x ∷ rs) r =
-    ap (λ (y : List ℕ). 44 ∷ y) (ap (λ (y : List ℕ). run_text x.first x.last ++ y) (more_on rs r) ∙
-    sym (append_assoc (run_text x.first x.last) (more_text rs) (44 ∷ run_text r.first r.last)))
+more_on : (text : ℕ → List ℕ) (rs : List Run) (r : Run) → more_text text (rs ++ r ∷ []) ≡ more_text text rs ++ 44 ∷ run_text text r.first r.last
+more_on text [] r = ap (λ (y : List ℕ). 44 ∷ y) (append-nil (run_text text r.first r.last))
+more_on text (x ∷ rs) r =
+    ap (λ (y : List ℕ). 44 ∷ y) (ap (λ (y : List ℕ). run_text text x.first x.last ++ y) (more_on text rs r) ∙
+    sym (append_assoc (run_text text x.first x.last) (more_text text rs) (44 ∷ run_text text r.first r.last)))
 
-pub runs_more : (rs : List Run) (r : Run) → runs_text (rs ++ r ∷ []) ≡ runs_text rs ++ comma rs ++ run_text r.first r.last
-runs_more [] r = append-nil (run_text r.first r.last)
-runs_more (x ∷ rs) r =
-    ap (λ (y : List ℕ). run_text x.first x.last ++ y) (more_on rs r) ∙
-    (sym (append_assoc (run_text x.first x.last) (more_text rs) (44 ∷ run_text r.first r.last)) ∙
-    sym (append_assoc (run_text x.first x.last ++ more_text rs) (44 ∷ []) (run_text r.first r.last)))
+pub runs_more : (text : ℕ → List ℕ) (rs : List Run) (r : Run) → runs_text text (rs ++ r ∷ []) ≡ runs_text text rs ++ comma rs ++ run_text text r.first r.last
+runs_more text [] r = append-nil (run_text text r.first r.last)
+runs_more text (x ∷ rs) r =
+    ap (λ (y : List ℕ). run_text text x.first x.last ++ y) (more_on text rs r) ∙
+    (sym (append_assoc (run_text text x.first x.last) (more_text text rs) (44 ∷ run_text text r.first r.last)) ∙
+    sym (append_assoc (run_text text x.first x.last ++ more_text text rs) (44 ∷ []) (run_text text r.first r.last)))
 
 -- There are at most 2048 of them.
 pub few_apart : (n : ℕ) (rs : List Run) → n ≤ 4097 → StandApart n rs → 2 * length rs + n ≤ 4097

@@ -5,10 +5,8 @@ pub mod RunLemmas
 pub mod DigitLemmas
 pub mod LineLemmas
 pub mod LineOfLemmas
-pub mod OffsetTextLemmas
 pub mod SumLineLemmas
 pub mod SumTextLemmas
-pub mod TextAnswerLemmas
 pub mod PackedLemmas
 pub mod MakerLemmas
 pub mod PutLemmas

@@ -1,6 +1,7 @@
 -- The texts of lines field by field, and what stands at the front of one.
-use Rattle.std.proofs.Common.{◌≡◌, ◌≢◌, ℕ, ◌+◌, Bool, true, false, List, [], ◌++◌, ap, ◌∙◌, sym, append_assoc, append-nil}
+use Rattle.std.proofs.Common.{◌≡◌, ◌≢◌, ℕ, ◌+◌, Bool, true, false, List, [], ◌++◌, refl, ap, ◌∙◌, sym, append_assoc, append-nil}
 use Rattle.std.specs.Prelude.{if◌then◌else◌, codes, Option, Some, None, IfSome}
+use Rattle.std.specs.Option.{IsSomeAnd}
 use Rattle.word12.specs.Words.{octal_text}
 use Rattle.domain.specs.TrackedCells.{TrackedCell}
 use Rattle.certificate_lines.specs.FieldSpelling.{RoutineLine, set_text, rank_text, routine_line, cell_line}
@@ -23,6 +24,10 @@ pub not_there : {X : Type 0} (reads : Bool) (s p rest : List ℕ) → ((r : List
     (if reads then Some s else None) ≡ Some (p ++ rest) → X
 not_there true s p rest none e = absurd (none rest (cc))
 not_there false s p rest none e = absurd (cc)
+
+pub taken_there : (reads : Bool) (s p rest : List ℕ) → reads ≡ true → s ≡ p ++ rest →
+    IsSomeAnd (if reads then Some rest else None) (λ r. (if reads then Some s else None) ≡ Some (p ++ r))
+taken_there reads s p rest e f = rw (e, f) refl
 
 -- One field was at the front, and then another.
 pub both : (a b c : Option (List ℕ)) (x y : List ℕ) → IfSome b (λ r. a ≡ Some (x ++ r)) → IfSome c (λ r. b ≡ Some (y ++ r)) → IfSome c (λ r. a ≡ Some (x ++ y ++ r))

@@ -1,6 +1,6 @@
 -- A line is read from its text.
 use Rattle.std.proofs.Common.{◌≡◌, ℕ, zero, suc, ◌+◌, ◌<◌, ◌≤◌, ◌==◌, Bool, true, false, ◌&&◌, ◌||◌, List, [], ◌∷◌, ◌++◌, map, refl, ap, ◌∙◌, sym, inl, inr, arith, append-nil}
-use Rattle.std.specs.Prelude.{if◌then◌else◌, codes, nat_lt}
+use Rattle.std.specs.Prelude.{if◌then◌else◌, codes, nat_lt, not}
 use Rattle.std.specs.List.{slice_split, onto_first, list_any}
 use Rattle.std.specs.Str.{bytes_eq}
 use Rattle.std.proofs.Math.Bool.{or-false}
@@ -15,14 +15,14 @@ use Rattle.word12.specs.Octal.{octal_value}
 use Rattle.wordset.specs.Words.{Words, nothing, between, some_below}
 use Rattle.domain.specs.Locations.{Location, Ac, Cell}
 use Rattle.certificate_lines.specs.declared.runs.Run.{Run}
-use Rattle.certificate_lines.specs.FieldSpelling.{Registers, digits, set_text, offsets_text, name_text, rank_text}
+use Rattle.certificate_lines.specs.FieldSpelling.{Registers, digits, numbers_text, set_text, offsets_text, name_text, rank_text}
 use Rattle.certificate_lines.specs.RisingLists.{Each, EndsBefore, IsOfLinks}
 use Rattle.certificate_lines.specs.FieldsLeft.{run_text}
 use Rattle.certificate_lines.specs.Runs.{joined, StandApart}
-use Rattle.certificate_lines.specs.LineWords.{run_of, in_runs, set_of, has_digit, offsets_in, links_in}
-use Rattle.certificate_lines.proofs.ApartLemmas.{more_text, runs_text, first_or}
-use Rattle.certificate_lines.proofs.PackedLemmas.{runs_within, or_with}
-use Rattle.certificate_lines.proofs.SetLemmas.{Full, by_words, empty_text}
+use Rattle.certificate_lines.specs.LineWords.{run_of, set_of, has_digit, offsets_in, links_in}
+use Rattle.certificate_lines.proofs.ApartLemmas.{more_text, runs_text, AllBelow, first_or}
+use Rattle.certificate_lines.proofs.PackedLemmas.{or_with}
+use Rattle.certificate_lines.proofs.SetLemmas.{RunsOf, by_words, empty_text}
 use Rattle.certificate_lines.proofs.RunLemmas.{first_digit}
 use Rattle.certificate_lines.proofs.DigitLemmas.{by_offsets, some_offsets, no_offsets}
 use Rattle.certificate_lines.proofs.TextLemmas.{each_append}
@@ -56,19 +56,25 @@ either k false xs ys f g = g
 pub octal_above : (n : ℕ) → Above 44 (octal_text n)
 octal_above n = (omega arith, (omega arith, (omega arith, (omega arith, tt))))
 
-pub run_above : (low high : ℕ) → Above 44 (run_text low high)
-run_above low high =
-    each_append (λ c. 44 < c) (octal_text low) _ (octal_above low)
-    (either 44 (low == high) [] (codes "-" ++ octal_text high) tt (omega arith, octal_above high))
+run_above : (text : ℕ → List ℕ) → ((n : ℕ) → Above 44 (text n)) → (low high : ℕ) → Above 44 (run_text text low high)
+run_above text above low high =
+    each_append (λ c. 44 < c) (text low) _ (above low) (either 44 (low == high) [] (codes "-" ++ text high) tt (omega arith, above high))
 
-more_above : (rs : List Run) → Above 43 (more_text rs)
-more_above [] = tt
-more_above (r ∷ rs) =
-    (omega arith, each_append (λ c. 43 < c) (run_text r.first r.last) (more_text rs) (lower (run_text r.first r.last) (run_above r.first r.last)) (more_above rs))
+more_above : (text : ℕ → List ℕ) → ((n : ℕ) → Above 44 (text n)) → (rs : List Run) → Above 43 (more_text text rs)
+more_above text above [] = tt
+more_above text above (r ∷ rs) = (
+  omega arith,
+  each_append (λ c. 43 < c) (run_text text r.first r.last) (more_text text rs) (lower (run_text text r.first r.last) (run_above text above r.first r.last))
+      (more_above text above rs),
+)
+
+pub runs_above : (text : ℕ → List ℕ) → ((n : ℕ) → Above 44 (text n)) → (rs : List Run) → Above 43 (runs_text text rs)
+runs_above text above [] = tt
+runs_above text above (r ∷ rs) = (more_above text above (r ∷ rs)).1
 
 pub set_above : (s : Words) → Above 43 (set_text s)
 set_above s = elim (by_words s) [
-  | inl f ↦ rw f.text (more_above (f.runs.first ∷ f.runs.more)).1
+  | inl f ↦ rw f.text_is (runs_above octal_text octal_above (f.first ∷ f.more))
   | inr empty ↦ rw (empty_text s empty) (omega arith, tt)
 ]
 
@@ -95,30 +101,37 @@ rank_back n h = omega arith
 pub digit_back : (n : ℕ) → octal_value ((48 + n) ∷ []) ≡ n
 digit_back n = omega arith
 
--- Sets.
-ends_are : (x y low high a : ℕ) → x ≡ low → y ≡ high → between x y a ≡ between low high a
+-- Sets. Numbers below `most` are spelled so: each byte is above a comma, and a run is read as it is.
+pub record IsSpelled (text : ℕ → List ℕ) (count most : ℕ) : Type 0 where
+  pub above : (n : ℕ) → Above 44 (text n)
+  pub run : (low high a : ℕ) → low ≤ high → high < most → run_of count (run_text text low high) a ≡ between low high a
+
+pub ends_are : (x y low high a : ℕ) → x ≡ low → y ≡ high → between x y a ≡ between low high a
 ends_are x y low high a e f = rw (e, f) refl
 
-run_back : (low high a : ℕ) → low ≤ high → high < 4096 → run_of (run_text low high) a ≡ between low high a
+run_back : (low high a : ℕ) → low ≤ high → high < 4096 → run_of 4 (run_text octal_text low high) a ≡ between low high a
 run_back low high a order small = elim (eqb_tells low high) [
   | inl e ↦ rw e.0 (ends_are _ _ low high a (octal_back low (omega arith)) (octal_back low (omega arith) ∙ e.1))
   | inr e ↦ rw e.0 (ends_are _ _ low high a (octal_back low (omega arith)) (octal_back high small))
 ]
 
-abbrev text_of : Run → List ℕ
-text_of r = run_text r.first r.last
+abbrev text_of : (ℕ → List ℕ) → Run → List ℕ
+text_of text r = run_text text r.first r.last
 
-runs_split : (r : Run) (rs : List Run) → slice_split (λ c. c == 44) (runs_text (r ∷ rs)) ≡ map text_of (r ∷ rs)
-runs_split r [] =
-    ap (slice_split (λ c. c == 44)) (append-nil (text_of r)) ∙ split_none (λ c. c == 44) (text_of r) (apart 44 44 (text_of r) (omega arith) (run_above r.first r.last))
-runs_split r (t ∷ ts) =
-    split_at (λ c. c == 44) (text_of r) 44 (runs_text (t ∷ ts)) (apart 44 44 (text_of r) (omega arith) (run_above r.first r.last)) refl ∙
-    ap (λ (x : List (List ℕ)). text_of r ∷ x) (runs_split t ts)
+runs_split : (text : ℕ → List ℕ) → ((n : ℕ) → Above 44 (text n)) → (r : Run) (rs : List Run) →
+    slice_split (λ c. c == 44) (runs_text text (r ∷ rs)) ≡ map (text_of text) (r ∷ rs)
+runs_split text above r [] =
+    ap (slice_split (λ c. c == 44)) (append-nil (text_of text r)) ∙
+    split_none (λ c. c == 44) (text_of text r) (apart 44 44 (text_of text r) (omega arith) (run_above text above r.first r.last))
+runs_split text above r (t ∷ ts) =
+    split_at (λ c. c == 44) (text_of text r) 44 (runs_text text (t ∷ ts)) (apart 44 44 (text_of text r) (omega arith) (run_above text above r.first r.last)) refl ∙
+    ap (λ (x : List (List ℕ)). text_of text r ∷ x) (runs_split text above t ts)
 
-in_runs_back : (n a : ℕ) (rs : List Run) → StandApart n rs → in_runs (map text_of rs) a ≡ joined nothing rs a
-in_runs_back n a [] h = refl
-in_runs_back n a (r ∷ rs) h =
-    or_with _ _ _ _ (run_back r.first r.last a h.1 h.2) (in_runs_back (r.last + 2) a rs h.3) ∙ sym (first_or r rs a)
+runs_back : (text : ℕ → List ℕ) (count most : ℕ) → IsSpelled text count most → (n a : ℕ) (rs : List Run) → StandApart n rs → AllBelow most rs →
+    list_any (λ t. run_of count t a) (map (text_of text) rs) ≡ joined nothing rs a
+runs_back text count most k n a [] h small = refl
+runs_back text count most k n a (r ∷ rs) h small =
+    or_with _ _ _ _ (k.run r.first r.last a h.1 small.0) (runs_back text count most k (r.last + 2) a rs h.3 small.1) ∙ sym (first_or r rs a)
 
 pub other_text : (xs ys : List ℕ) → (xs ≡ ys → ⊥) → bytes_eq xs ys ≡ false
 other_text xs ys other = elim (cases_Bool (bytes_eq xs ys)) [
@@ -126,23 +139,21 @@ other_text xs ys other = elim (cases_Bool (bytes_eq xs ys)) [
   | inr e ↦ e
 ]
 
-full_set : (s : Words) → Full s → (a : ℕ) → a < 4096 → (if bytes_eq (set_text s) (codes "-") then nothing a else in_runs (slice_split (λ c. c == 44) (set_text s)) a) ≡ s a
-full_set s f a small =
-    let r : Run = f.runs.first in
-    let rs : List Run = f.runs.more in
-    let no : bytes_eq (set_text s) (codes "-") ≡ false = other_text (set_text s) (codes "-") (λ e. first_digit s f [] [] (append-nil (set_text s) ∙ e)) in
-    rw no (
-    ap (λ (x : List ℕ). in_runs (slice_split (λ c. c == 44) x) a) f.text ∙ (ap (λ (x : List (List ℕ)). in_runs x a) (runs_split r rs) ∙
-    (in_runs_back 0 a (r ∷ rs) f.runs.apart ∙ (runs_within (r ∷ rs) a small ∙ f.runs.same a small))))
-
-empty_set : (s : Words) → ((v : ℕ) → v < 4096 → s v ≡ false) → (a : ℕ) → a < 4096 → (if bytes_eq (set_text s) (codes "-") then nothing a else in_runs (slice_split (λ c. c == 44) (set_text s)) a) ≡ s a
-empty_set s none a small = rw (empty_text s none) (sym (none a small))
+-- The text of a set with runs is read as the set.
+pub numbers_back : (text : ℕ → List ℕ) (count most : ℕ) → IsSpelled text count most → (s : Words) (r : RunsOf text most s) → (numbers_text text most s ≡ codes "-" → ⊥) →
+    (a : ℕ) → a < 4096 → (not (bytes_eq (numbers_text text most s) (codes "-")) &&
+    list_any (λ t. run_of count t a) (slice_split (λ c. c == 44) (numbers_text text most s))) ≡ s a
+numbers_back text count most k s r other a small =
+    rw (other_text (numbers_text text most s) (codes "-") other)
+    (ap (λ (x : List ℕ). list_any (λ t. run_of count t a) (slice_split (λ c. c == 44) x)) r.text_is ∙
+    (ap (λ (x : List (List ℕ)). list_any (λ t. run_of count t a) x) (runs_split text k.above r.first r.more) ∙
+    (runs_back text count most k 0 a (r.first ∷ r.more) r.apart r.below ∙ sym (r.same a small))))
 
 pub set_back : (s : Words) → EndsBefore 4096 s → set_of (set_text s) ≡ s
 set_back s end = fun_ext (λ a. elim (cases_lt a 4096) [
   | inl small ↦ rw (lt-ltb a 4096 small) (elim (by_words s) [
-    | inl f ↦ full_set s f a small
-    | inr none ↦ empty_set s none a small
+    | inl r ↦ numbers_back octal_text 4 4096 (record { above = octal_above; run = run_back }) s r (λ e. first_digit s r [] [] (append-nil (set_text s) ∙ e)) a small
+    | inr none ↦ rw (empty_text s none) (sym (none a small))
   ])
   | inr past ↦ rw (le-ltb a 4096 past) (sym (end a past))
 ])

@@ -1,7 +1,7 @@
 -- Lines that add to what is said of a fact, in all versions, and the line of the fact itself.
-use Rattle.std.proofs.Common.{◌≡◌, ℕ, ◌+◌, ◌<◌, ◌≤◌, List, [], ◌∷◌, ◌++◌, length, map, take, drop, get_or, refl, ap, ◌∙◌, sym, arith, append_assoc, append-nil, length-append}
+use Rattle.std.proofs.Common.{◌≡◌, ℕ, ◌+◌, ◌<◌, ◌≤◌, List, [], ◌∷◌, ◌++◌, length, map, take, drop, get_or, refl, ap, ◌∙◌, sym, arith, append_assoc, append-nil}
 use Rattle.std.proofs.lemmas.Bool.Decides.{nat_tests}
-use Rattle.std.proofs.lemmas.List.{map_push, take_more, take_all, drop_at, length-take-le, length-map}
+use Rattle.std.proofs.lemmas.List.{map_push, take_more, take_all, drop_at}
 use Rattle.std.proofs.Math.Path.{fun_ext}
 use Rattle.wordset.specs.Words.{Words, nothing, between, one}
 use Rattle.domain.specs.Locations.{Location, Ac, Cell}
@@ -45,13 +45,6 @@ steps_begun c = ap (λ (x : List SaidStep). record c { steps = x }) (sym (append
 pub steps_done : (old now : Chain) (steps : List Step) (i : ℕ) → length steps ≤ i → now ≡ record old { steps = old.steps ++ map step_of (take i steps) } →
     now ≡ record old { steps = old.steps ++ map step_of steps }
 steps_done old now steps i h e = e ∙ ap (λ (x : List Step). record old { steps = old.steps ++ map step_of x }) (take_all i steps h)
-
-pub steps_fit : (old now : Chain) (steps : List Step) (i : ℕ) → i < length steps → length old.steps + length steps ≤ 17 →
-    now ≡ record old { steps = old.steps ++ map step_of (take i steps) } → length now.steps < 17
-steps_fit old now steps i h room e =
-    let l : length now.steps ≡ length (old.steps ++ map step_of (take i steps)) = ap (λ (c : Chain). length c.steps) e in
-    let k : length (take i steps) ≡ i = length-take-le i steps (omega arith) in
-    omega (arith, length-append old.steps (map step_of (take i steps)), length-map (take i steps) step_of)
 
 -- The words of each name, as code and as lines have them.
 pub sets_are : (ac : Words) (cells : List TrackedCell) → names_words ac cells ≡ sets_of ac cells

@@ -3,13 +3,12 @@ use Rattle.std.proofs.Common.{◌≡◌, ◌≢◌, ℕ, suc, ◌+◌, ◌/◌, 
 use Rattle.std.specs.Prelude.{IfSome, if◌then◌else◌, codes, flat_map, nat_le, nat_lt}
 use Rattle.std.specs.List.{list_all}
 use Rattle.std.specs.Option.{IsSomeAnd}
-use Rattle.std.proofs.Math.Bool.{and-true, and-false, or-false}
-use Rattle.std.proofs.Math.Path.{fun_ext}
-use Rattle.std.proofs.lemmas.Bool.{true≢false, false≢true, and_parts, eq-eqb, eqb-true, ltb-true, leb-true, lt-ltb, cases_lt, cases_Bool}
+use Rattle.std.proofs.Math.Bool.{or-false}
+use Rattle.std.proofs.lemmas.Bool.{true≢false, false≢true, and_parts, eq-eqb, eqb-true, ltb-true, leb-true, lt-ltb, cases_Bool}
 use Rattle.std.proofs.lemmas.Bool.Decides.{eqb_tells, nat_tests}
 use Rattle.std.proofs.lemmas.List.Concat.{flat_map-append}
 use Rattle.word12.specs.Words.{octal_text}
-use Rattle.wordset.specs.Words.{Words, nothing, minus}
+use Rattle.wordset.specs.Words.{minus}
 use Rattle.domain.specs.Locations.{Location, Ac, Cell}
 use Rattle.domain.specs.Shapes.{has_shape, is_triple, is_cell}
 use Rattle.domain.specs.Terms.{Term, Holding, Behind, Summand, Sum, arranged, same_sum, name_of_term}
@@ -19,7 +18,7 @@ use Rattle.domain.specs.declared.chains.Step.{Step as KeptStep}
 use Rattle.domain.specs.ChainsInCode.{step_of}
 use Rattle.domain.specs.Chains.{Step, Operates, Ands, Adds}
 use Rattle.certificate_lines.specs.FieldSpelling.{name_text}
-use Rattle.certificate_lines.specs.RisingLists.{EndsBefore, place_of_name}
+use Rattle.certificate_lines.specs.RisingLists.{place_of_name}
 use Rattle.certificate_lines.specs.Spelling.{coefficient_text, further_text, term_text, sum_text, step_text}
 use Rattle.certificate_lines.specs.LineOf.{is_term, is_summand, is_relation, is_step}
 use Rattle.certificate_lines.specs.Fields.{third_text, step_rest}
@@ -30,29 +29,6 @@ use Rattle.certificate_lines.proofs.RunLemmas.{how_long}
 -- Two codes that differ.
 differ : (a b : ℕ) → (a == b) ≡ false → a ≡ b → ⊥
 differ a b e f = true≢false (sym (eq-eqb a b f) ∙ e)
-
--- Offsets put in one by one.
-pub none_told : (s t : Words) (v : ℕ) → s ≡ nothing → s v ≡ (nat_lt v 0 && t v)
-none_told s t v e = let z : nat_lt v 0 ≡ false = grind (arith, nat_tests) in rw z (ap (λ (f : Words). f v) e)
-
-pub told_more : (s : Words) (n v : ℕ) (x b : Bool) → x ≡ (nat_lt v n && s v) → b ≡ s n → (x || b && v == n) ≡ (nat_lt v (n + 1) && s v)
-told_more s n v x b e f = elim (eqb_tells v n) [
-  | inl t ↦ (let a : nat_lt n n ≡ false = grind (arith, nat_tests) in let d : nat_lt n (n + 1) ≡ true = grind (arith, nat_tests) in
-      rw (t.0, e, f, t.1, a, d) (and-true (s n)))
-  | inr t ↦ (let d : nat_lt v (n + 1) ≡ nat_lt v n = more v n t.1 in rw (t.0, and-false b, or-false x, d) e)
-]
-  where
-    more : (v n : ℕ) → v ≢ n → nat_lt v (n + 1) ≡ nat_lt v n
-    more v n d = grind (arith, nat_tests)
-
-pub all_told : (s t : Words) (n : ℕ) → 8 ≤ n → n ≤ 8 → EndsBefore 8 t → ((v : ℕ) → s v ≡ (nat_lt v n && t v)) → s ≡ t
-all_told s t n a b ends h = fun_ext (λ v. h v ∙ elim (cases_lt v 8) [
-  | inl small ↦ (let d : nat_lt v n ≡ true = grind (arith, nat_tests) in rw d refl)
-  | inr past ↦ rw (ends v past) (and-false (nat_lt v n))
-])
-
-pub none_of_eight : (s t : Words) → s ≡ nothing → EndsBefore 8 t → ((v : ℕ) → v < 8 → t v ≡ false) → s ≡ t
-none_of_eight s t e ends none = e ∙ fun_ext (λ v. sym (elim (cases_lt v 8) [ inl small ↦ none v small | inr past ↦ ends v past ]))
 
 -- Offsets put in from one to another.
 pub run_begun : (x : Bool) (first v : ℕ) → x ≡ (x || nat_le first v && nat_lt v first)

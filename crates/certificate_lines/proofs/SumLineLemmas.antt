@@ -1,5 +1,5 @@
 -- A line of any version is read from its text.
-use Rattle.std.proofs.Common.{◌≡◌, ℕ, suc, ◌+◌, ◌-◌, ◌/◌, ◌<◌, ◌≤◌, ◌==◌, true, false, ◌&&◌, List, [], ◌∷◌, ◌++◌, length, map, take, refl, ap, ◌∙◌, sym, inl, inr, arith, append-nil, append_assoc, length-append}
+use Rattle.std.proofs.Common.{◌≡◌, ℕ, suc, ◌+◌, ◌-◌, ◌/◌, ◌<◌, ◌≤◌, ◌==◌, true, false, ◌&&◌, List, [], ◌∷◌, ◌++◌, length, take, refl, ap, ◌∙◌, sym, inl, inr, arith, append-nil, append_assoc, length-append}
 use Rattle.std.specs.Prelude.{codes, flat_map, nat_lt, nat_le, not, Option, Some}
 use Rattle.std.specs.List.{slice_split, list_any, list_all, join_with_byte}
 use Rattle.std.specs.Str.{bytes_eq}
@@ -8,7 +8,7 @@ use Rattle.std.proofs.lemmas.Bool.{true≢false, and_parts, ne_eqb, eq-eqb, eqb-
 use Rattle.std.proofs.lemmas.Bool.Decides.{eqb_tells}
 use Rattle.std.proofs.lemmas.Slice.Eq.{bytes_eq-Decides}
 use Rattle.word12.specs.Words.{octal_text}
-use Rattle.wordset.specs.Words.{Words, nothing, between, one, only, some_below, has_some}
+use Rattle.wordset.specs.Words.{Words, between, one, only, some_below, has_some}
 use Rattle.wordset.proofs.Firsts.{only_next}
 use Rattle.wordset.proofs.Tests.{some_none_of, none_of_some}
 use Rattle.domain.specs.Shapes.{has_shape}
@@ -19,22 +19,19 @@ use Rattle.domain.specs.Chains.{Step, Operates, Ands, Adds, Chain}
 use Rattle.domain.specs.Facts.{Relation}
 use Rattle.certificate_lines.specs.declared.Version.{Version}
 use Rattle.certificate_lines.specs.declared.Version.TheVariants.{One, Two, Three}
-use Rattle.certificate_lines.specs.declared.runs.Run.{Run}
-use Rattle.certificate_lines.specs.FieldSpelling.{RoutineLine, Registers, digits, set_text, offsets_text, name_text, rank_text, routine_line, cell_line}
+use Rattle.certificate_lines.specs.FieldSpelling.{RoutineLine, Registers, digits, set_text, offset_set_text, offsets_text, name_text, rank_text, routine_line, cell_line}
 use Rattle.certificate_lines.specs.RisingLists.{Each, EndsBefore}
-use Rattle.certificate_lines.specs.LineWords.{words_in, word_at, set_of, name_of}
-use Rattle.certificate_lines.specs.Runs.{joined, StandApart}
+use Rattle.certificate_lines.specs.LineWords.{words_in, word_at, run_of, numbers_of, set_of, name_of}
 use Rattle.certificate_lines.specs.Lines.{Line, RoutineIs, FactIs, ExitIs, CellIs, SumIs, ChainIs, End, is_of_sums}
 use Rattle.certificate_lines.specs.Spelling.{offsets_line, offset_text, term_text, coefficient_text, further_text, word_text, equation_line, relation_line, step_text, chain_line, line_text}
-use Rattle.certificate_lines.specs.LineOf.{reads, offset_run_of, offset_set_of, offsets_of, registers_in, term_of, coefficient_of, further_in, steps_in, said_by, is_term, is_summand, is_relation, is_step, most_offsets, has_form, line_if, line_of}
-use Rattle.certificate_lines.specs.Fields.{offset_run_text, offset_set_text}
+use Rattle.certificate_lines.specs.LineOf.{reads, offsets_of, registers_in, term_of, coefficient_of, further_in, steps_in, said_by, is_term, is_summand, is_relation, is_step, most_offsets, has_form, line_if, line_of}
+use Rattle.certificate_lines.specs.FieldsLeft.{run_text}
 use Rattle.certificate_lines.specs.Laws.{SitesFit, RegistersFit, IsEquation, LineFits, SpelledIsRead}
-use Rattle.certificate_lines.proofs.ApartLemmas.{first_or}
-use Rattle.certificate_lines.proofs.PackedLemmas.{or_with}
 use Rattle.certificate_lines.proofs.TextLemmas.{each_append}
 use Rattle.certificate_lines.proofs.LineLemmas.{routine_fields, cell_fields}
-use Rattle.certificate_lines.proofs.OffsetTextLemmas.{offset_more_text, offset_runs_text, OffsetRuns, offset_runs_of, no_offset_text, AllSmall, runs_small}
-use Rattle.certificate_lines.proofs.LineOfLemmas.{split_at, split_none, Above, apart, lower, either, set_above, digits_above, offsets_above, name_above, octal_back, rank_back, digit_back, set_back, offsets_back, links_back, other_text, literal, registers_are}
+use Rattle.certificate_lines.proofs.ApartLemmas.{runs_text}
+use Rattle.certificate_lines.proofs.SetLemmas.{RunsOf, offset_runs, no_offset_text}
+use Rattle.certificate_lines.proofs.LineOfLemmas.{split_at, split_none, Above, apart, lower, either, runs_above, set_above, ends_are, numbers_back, digits_above, offsets_above, name_above, octal_back, rank_back, digit_back, set_back, offsets_back, links_back, other_text, literal, registers_are}
 
 -- Words of a line, in which the least byte is a plus sign.
 weaker : (k l : ℕ) (xs : List ℕ) → l ≤ k → Above k xs → Above l xs
@@ -60,69 +57,33 @@ literal_signs w e = weaker 43 32 w (omega arith) (literal w e)
 rank_above : (n : ℕ) → Above 44 (rank_text n)
 rank_above n = (omega arith, (omega arith, tt))
 
-offset_run_above : (low high : ℕ) → Above 44 (offset_run_text low high)
-offset_run_above low high =
-    each_append (λ c. 44 < c) (rank_text low) _ (rank_above low)
-    (either 44 (low == high) [] (codes "-" ++ rank_text high) tt (omega arith, rank_above high))
-
-offset_more_above : (rs : List Run) → Above 43 (offset_more_text rs)
-offset_more_above [] = tt
-offset_more_above (r ∷ rs) =
-    (omega arith, each_append (λ c. 43 < c) (offset_run_text r.first r.last) (offset_more_text rs) (lower (offset_run_text r.first r.last) (offset_run_above r.first r.last)) (offset_more_above rs))
-
-ends_alike : (x y low high a : ℕ) → x ≡ low → y ≡ high → between x y a ≡ between low high a
-ends_alike x y low high a e f = rw (e, f) refl
-
-offset_run_back : (low high a : ℕ) → low ≤ high → high < 64 → offset_run_of (offset_run_text low high) a ≡ between low high a
+offset_run_back : (low high a : ℕ) → low ≤ high → high < 64 → run_of 2 (run_text rank_text low high) a ≡ between low high a
 offset_run_back low high a order small = elim (eqb_tells low high) [
-  | inl e ↦ rw e.0 (ends_alike _ _ low high a (rank_back low (omega arith)) (rank_back low (omega arith) ∙ e.1))
-  | inr e ↦ rw e.0 (ends_alike _ _ low high a (rank_back low (omega arith)) (rank_back high small))
+  | inl e ↦ rw e.0 (ends_are _ _ low high a (rank_back low (omega arith)) (rank_back low (omega arith) ∙ e.1))
+  | inr e ↦ rw e.0 (ends_are _ _ low high a (rank_back low (omega arith)) (rank_back high small))
 ]
 
-abbrev text_of_offsets : Run → List ℕ
-text_of_offsets r = offset_run_text r.first r.last
-
-offset_runs_split : (r : Run) (rs : List Run) → slice_split (λ c. c == 44) (offset_runs_text (r ∷ rs)) ≡ map text_of_offsets (r ∷ rs)
-offset_runs_split r [] =
-    ap (slice_split (λ c. c == 44)) (append-nil (text_of_offsets r)) ∙
-    split_none (λ c. c == 44) (text_of_offsets r) (apart 44 44 (text_of_offsets r) (omega arith) (offset_run_above r.first r.last))
-offset_runs_split r (t ∷ ts) =
-    split_at (λ c. c == 44) (text_of_offsets r) 44 (offset_runs_text (t ∷ ts)) (apart 44 44 (text_of_offsets r) (omega arith) (offset_run_above r.first r.last)) refl ∙
-    ap (λ (x : List (List ℕ)). text_of_offsets r ∷ x) (offset_runs_split t ts)
-
-in_offset_runs : (n a : ℕ) (rs : List Run) → StandApart n rs → AllSmall rs → list_any (λ text. offset_run_of text a) (map text_of_offsets rs) ≡ joined nothing rs a
-in_offset_runs n a [] h small = refl
-in_offset_runs n a (r ∷ rs) h small =
-    or_with _ _ _ _ (offset_run_back r.first r.last a h.1 small.0) (in_offset_runs (r.last + 2) a rs h.3 small.1) ∙ sym (first_or r rs a)
-
-full_offsets : (s : Words) → EndsBefore 64 s → some_below 64 s ≡ true → (o : ℕ) → o < 64 →
-    (not (reads (offset_set_text s) (codes "-")) && list_any (λ text. offset_run_of text o) (slice_split (λ c. c == 44) (offset_set_text s))) ≡ s o
-full_offsets s end full o small = go (offset_runs_of s end full)
+full_offsets : (s : Words) (r : RunsOf rank_text 64 s) (o : ℕ) → o < 64 →
+    (not (bytes_eq (offset_set_text s) (codes "-")) && list_any (λ t. run_of 2 t o) (slice_split (λ c. c == 44) (offset_set_text s))) ≡ s o
+full_offsets s r o small = numbers_back rank_text 2 64 (record { above = rank_above; run = offset_run_back }) s r dash o (omega arith)
   where
-    go : OffsetRuns s → (not (reads (offset_set_text s) (codes "-")) && list_any (λ text. offset_run_of text o) (slice_split (λ c. c == 44) (offset_set_text s))) ≡ s o
-    go f =
-        let no : reads (offset_set_text s) (codes "-") ≡ false = other_text (offset_set_text s) (codes "-") (λ e.
-        let m : offset_runs_text (f.first ∷ f.more) ≡ codes "-" = sym f.text ∙ e in
-        let z : 48 + f.first.first / 8 ≡ 45 = cc in omega arith) in
-        rw no (ap (λ (x : List ℕ). list_any (λ text. offset_run_of text o) (slice_split (λ c. c == 44) x)) f.text ∙
-        (ap (λ (x : List (List ℕ)). list_any (λ text. offset_run_of text o) x) (offset_runs_split f.first f.more) ∙
-        (in_offset_runs 0 o (f.first ∷ f.more) f.apart (runs_small s 0 (f.first ∷ f.more) end f.apart (λ v a b. f.same v b)) ∙ sym (f.same o (omega arith)))))
+    dash : offset_set_text s ≡ codes "-" → ⊥
+    dash e =
+        let m : runs_text rank_text (r.first ∷ r.more) ≡ codes "-" = sym r.text_is ∙ e in
+        let z : 48 + r.first.first / 8 ≡ 45 = cc in omega arith
 
-offset_set_back : (s : Words) → EndsBefore 64 s → offset_set_of (offset_set_text s) ≡ s
+offset_set_back : (s : Words) → EndsBefore 64 s → numbers_of 2 64 (offset_set_text s) ≡ s
 offset_set_back s end = fun_ext (λ o. elim (cases_lt o 64) [
   | inl small ↦ rw (lt-ltb o 64 small) (elim (cases_Bool (some_below 64 s)) [
-    | inl full ↦ full_offsets s end full o small
-    | inr none ↦ rw (no_offset_text s none) (sym (none_at none o small))
+    | inl full ↦ full_offsets s (offset_runs s end full) o small
+    | inr none ↦ rw (no_offset_text s none) (sym (none_of_some 64 s none o small))
   ])
   | inr past ↦ rw (le-ltb o 64 past) (sym (end o past))
 ])
-  where
-    none_at : some_below 64 s ≡ false → (o : ℕ) → o < 64 → s o ≡ false
-    none_at none o small = none_of_some 64 s none o small
 
 offset_set_above : (s : Words) → EndsBefore 64 s → Above 43 (offset_set_text s)
 offset_set_above s end = elim (cases_Bool (some_below 64 s)) [
-  | inl full ↦ (let f = offset_runs_of s end full in rw f.text (offset_more_above (f.first ∷ f.more)).1)
+  | inl full ↦ (let r : RunsOf rank_text 64 s = offset_runs s end full in rw r.text_is (runs_above rank_text rank_above (r.first ∷ r.more)))
   | inr none ↦ rw (no_offset_text s none) (omega arith, tt)
 ]
 
@@ -137,38 +98,28 @@ told_above Two s end = lower (offsets_text s) (offsets_above s)
 told_above Three s end = offset_set_above s end
 
 -- Registers.
+abbrev mq_list : Version → Words → List (List ℕ) → List (List ℕ)
+mq_list One mq ws = ws
+mq_list Two mq ws = codes "mq" ∷ set_text mq ∷ ws
+mq_list Three mq ws = codes "mq" ∷ set_text mq ∷ ws
+
 abbrev register_list : Version → Registers → List (List ℕ) → List (List ℕ)
-register_list One r ws = codes "ac" ∷ set_text r.ac ∷ codes "link" ∷ digits 2 r.link ∷ ws
-register_list Two r ws = codes "ac" ∷ set_text r.ac ∷ codes "mq" ∷ set_text r.mq ∷ codes "link" ∷ digits 2 r.link ∷ ws
-register_list Three r ws = codes "ac" ∷ set_text r.ac ∷ codes "mq" ∷ set_text r.mq ∷ codes "link" ∷ digits 2 r.link ∷ ws
+register_list v r ws = codes "ac" ∷ set_text r.ac ∷ mq_list v r.mq (codes "link" ∷ digits 2 r.link ∷ ws)
 
 registers_read : (v : Version) (r : Registers) (ws : List (List ℕ)) → RegistersFit v r → registers_in v (register_list v r ws) ≡ r
 registers_read One r ws e = registers_are _ _ _ _ _ _ (set_back r.ac e.ac) (sym e.mq) (links_back r.link e.link)
 registers_read Two r ws e = registers_are _ _ _ _ _ _ (set_back r.ac e.ac) (set_back r.mq e.mq) (links_back r.link e.link)
 registers_read Three r ws e = registers_are _ _ _ _ _ _ (set_back r.ac e.ac) (set_back r.mq e.mq) (links_back r.link e.link)
 
+mq_signs : (v : Version) (mq : Words) (ws : List (List ℕ)) → Each (Above 32) ws → Each (Above 32) (mq_list v mq ws)
+mq_signs One mq ws h = h
+mq_signs Two mq ws h = (literal_signs (codes "mq") refl, (set_signs mq, h))
+mq_signs Three mq ws h = (literal_signs (codes "mq") refl, (set_signs mq, h))
+
 registers_signs : (v : Version) (r : Registers) (ws : List (List ℕ)) → Each (Above 32) ws → Each (Above 32) (register_list v r ws)
-registers_signs One r ws h =
-    (literal_signs (codes "ac") refl, (set_signs r.ac, (literal_signs (codes "link") refl, (weaker 44 32 (digits 2 r.link) (omega arith) (digits_above 2 r.link), h))))
-registers_signs Two r ws h = (
+registers_signs v r ws h = (
   literal_signs (codes "ac") refl,
-  (
-    set_signs r.ac,
-    (
-      literal_signs (codes "mq") refl,
-      (set_signs r.mq, (literal_signs (codes "link") refl, (weaker 44 32 (digits 2 r.link) (omega arith) (digits_above 2 r.link), h))),
-    ),
-  ),
-)
-registers_signs Three r ws h = (
-  literal_signs (codes "ac") refl,
-  (
-    set_signs r.ac,
-    (
-      literal_signs (codes "mq") refl,
-      (set_signs r.mq, (literal_signs (codes "link") refl, (weaker 44 32 (digits 2 r.link) (omega arith) (digits_above 2 r.link), h))),
-    ),
-  ),
+  (set_signs r.ac, mq_signs v r.mq (codes "link" ∷ digits 2 r.link ∷ ws) (literal_signs (codes "link") refl, (weaker 44 32 (digits 2 r.link) (omega arith) (digits_above 2 r.link), h))),
 )
 
 -- The words from the sites on, to which others are added.

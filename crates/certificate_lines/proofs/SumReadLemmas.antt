@@ -1,7 +1,7 @@
 -- Lines of all versions read field by field.
-use Rattle.std.proofs.Common.{◌≡◌, ℕ, ◌+◌, ◌-◌, ◌<◌, ◌&&◌, Bool, true, false, List, [], ◌∷◌, ◌++◌, length, drop, inl, inr, refl, ap, ◌∙◌, sym, subst, arith, append_assoc, append-nil}
-use Rattle.std.specs.Prelude.{codes, if◌then◌else◌, flat_map, nat_lt, nat_le, Option, Some, None, IfSome}
-use Rattle.std.proofs.lemmas.Bool.{true≢false, false≢true, and_parts, and_from, lt-ltb, le-ltb, ltb-true, leb-true, le-leb, eq-eqb, ne_eqb, cases_lt}
+use Rattle.std.proofs.Common.{◌≡◌, ℕ, ◌+◌, ◌-◌, ◌<◌, ◌&&◌, true, false, List, [], ◌∷◌, ◌++◌, length, drop, inl, inr, refl, ap, ◌∙◌, sym, subst, arith, append_assoc, append-nil}
+use Rattle.std.specs.Prelude.{codes, flat_map, nat_lt, nat_le, Option, Some, None, IfSome}
+use Rattle.std.proofs.lemmas.Bool.{true≢false, false≢true, and_parts, and_from, lt-ltb, le-ltb, ltb-true, leb-true, eq-eqb, ne_eqb, cases_lt}
 use Rattle.std.proofs.lemmas.Bool.Decides.{eqb_tells}
 use Rattle.std.proofs.lemmas.List.{take_all}
 use Rattle.word12.specs.Words.{octal_text}
@@ -18,7 +18,7 @@ use Rattle.certificate_lines.specs.FieldSpelling.{Registers, set_text, name_text
 use Rattle.certificate_lines.specs.RisingLists.{EndsBefore, IsOfLinks, place_of_name}
 use Rattle.certificate_lines.specs.FieldsLeft.{EndsField}
 use Rattle.certificate_lines.specs.Runs.{added, set_of_runs, set_at}
-use Rattle.certificate_lines.specs.Lines.{is_of_sums, FactIs, ExitIs, CellIs, SumIs, ChainIs}
+use Rattle.certificate_lines.specs.Lines.{is_of_sums, FactIs, ExitIs, CellIs, SumIs}
 use Rattle.certificate_lines.specs.Spelling.{sites_text, mq_text, words_text, offset_text, offsets_line, sum_text, word_text, equation_line, relation_line, step_text, chain_line, line_text}
 use Rattle.certificate_lines.specs.LineOf.{has_registers, is_summand, is_relation, is_step, most_offsets}
 use Rattle.certificate_lines.specs.Fields.{AreSteps}
@@ -51,16 +51,11 @@ registers_fit v ac mq link (Some x) a b c = record { ac = a; mq = b; link = c }
 pub registers_parts : (v : Version) (r : Registers) → has_registers v r ≡ true → (has_some r.ac ≡ true) × (has_some r.mq ≡ true) × (some_below 2 r.link ≡ true)
 registers_parts v r h = let p = and_parts (has_some r.ac) _ h in let q = and_parts (has_some r.mq) _ p.1 in (p.0, q.0, q.1)
 
--- After what is said of MQ or of the sites comes a space.
+-- After what is said of MQ comes a space.
 pub mq_space : (v : Version) (s : Words) (rest : List ℕ) → EndsField (mq_text v s ++ 32 ∷ rest)
 mq_space One s rest = refl
 mq_space Two s rest = refl
 mq_space Three s rest = refl
-
-pub sites_space : (v : Version) (s : Words) (rest : List ℕ) → EndsField (sites_text v s ++ 32 ∷ rest)
-sites_space One s rest = refl
-sites_space Two s rest = refl
-sites_space Three s rest = refl
 
 pub words_fields : (v : Version) (r : Registers) (rest : List ℕ) → words_text v r ++ rest ≡
     codes " ac " ++ (set_text r.ac ++ (mq_text v r.mq ++ (codes " link " ++ (digits 2 r.link ++ rest))))
@@ -69,19 +64,16 @@ words_fields v r rest = five (codes " ac ") (set_text r.ac) (mq_text v r.mq) (co
     five : (a b c d e f : List ℕ) → (a ++ b ++ c ++ d ++ e) ++ f ≡ a ++ (b ++ (c ++ (d ++ (e ++ f))))
     five a b c d e f = simp append_assoc
 
+six : (a b c d e f : List ℕ) → a ++ b ++ c ++ d ++ e ++ f ≡ a ++ (b ++ (c ++ (d ++ (e ++ (f ++ [])))))
+six a b c d e f = simp (append_assoc, append-nil)
+
 pub fact_fields : (v : Version) (a : ℕ) (s : Words) (r : Registers) (o : Words) → line_text v (FactIs a s r o) ≡
     codes "fact " ++ (octal_text a ++ (sites_text v s ++ (words_text v r ++ (codes " offsets " ++ (offsets_line v o ++ [])))))
 fact_fields v a s r o = six (codes "fact ") (octal_text a) (sites_text v s) (words_text v r) (codes " offsets ") (offsets_line v o)
-  where
-    six : (a b c d e f : List ℕ) → a ++ b ++ c ++ d ++ e ++ f ≡ a ++ (b ++ (c ++ (d ++ (e ++ (f ++ [])))))
-    six a b c d e f = simp (append_assoc, append-nil)
 
 pub exit_fields : (v : Version) (e o : ℕ) (s : Words) (r : Registers) → line_text v (ExitIs e o s r) ≡
     codes "exit " ++ (octal_text e ++ (codes " " ++ (offset_text v o ++ (sites_text v s ++ (words_text v r ++ [])))))
 exit_fields v e o s r = six (codes "exit ") (octal_text e) (codes " ") (offset_text v o) (sites_text v s) (words_text v r)
-  where
-    six : (a b c d e f : List ℕ) → a ++ b ++ c ++ d ++ e ++ f ≡ a ++ (b ++ (c ++ (d ++ (e ++ (f ++ [])))))
-    six a b c d e f = simp (append_assoc, append-nil)
 
 pub sum_line_fields : (r : Relation) → relation_line Three r ≡ codes "sum " ++ ((sum_text r.sum ++ codes " in ") ++ (set_text r.set ++ []))
 sum_line_fields r = four (codes "sum ") (sum_text r.sum) (codes " in ") (set_text r.set)
@@ -106,10 +98,6 @@ spaced_steps [] = tt
 spaced_steps (Operates w ∷ ps) = refl
 spaced_steps (Ands w ∷ ps) = refl
 spaced_steps (Adds w ∷ ps) = refl
-
--- A text stands at the front of what is left.
-pub text_there : (reads : Bool) (s p rest : List ℕ) → reads ≡ true → s ≡ p ++ rest → (r : List ℕ) × ((if reads then Some s else None) ≡ Some (p ++ r))
-text_there reads s p rest e f = (rest, rw (e, f) refl)
 
 -- The set that is written nowhere has a word.
 pub all_some : (old now : Option (List ℕ)) (s : Words) → IfSome now (λ r. (old ≡ Some r) × (s ≡ all_words)) → IfSome now (λ r. has_some s ≡ true)
@@ -141,14 +129,6 @@ pub exit_spelled : (v : Version) (e o : ℕ) (s : Words) (r : Registers) (line :
     line ≡ codes "exit " ++ octal_text e ++ codes " " ++ offset_text v o ++ sites_text v s ++ words_text v r → Spells v (ExitIs e o s r) line
 exit_spelled v e o s r line small few sites form fits is =
     record { form = and_from (nat_lt e 4096) _ (lt-ltb e 4096 small) (and_from (nat_lt o (most_offsets v)) _ (lt-ltb o (most_offsets v) few) form); fits = (sites, fits); text = is }
-
-pub chain_spelled : (c : Chain) (line : List ℕ) → c.cell < 4096 → c.more < 4096 → some_below 2 c.link ≡ true → IsOfLinks c.link → AreSteps c.steps → line ≡ chain_line c → Spells Three (ChainIs c) line
-chain_spelled c line cell more link links steps e = record {
-  form = and_from (nat_lt c.cell 4096) _ (lt-ltb c.cell 4096 cell) (and_from (nat_lt c.more 4096) _ (lt-ltb c.more 4096 more) (and_from (some_below 2 c.link) _ link
-      (and_from (nat_le 1 (length c.steps)) _ (le-leb 1 (length c.steps) steps.some) (and_from (nat_le (length c.steps) 16) _ (le-leb (length c.steps) 16 steps.few) steps.form))));
-  fits = (tt, links);
-  text = e;
-}
 
 -- Where there were no runs before, those that were added are all.
 pub sited_whole : (old new : List Run) (n : ℕ) (r : PackedRegisters) (s : Words) (said : Registers) → old ≡ [] → AreSited (drop (length old) new) n r s said → AreSited new n r s said
@@ -209,9 +189,6 @@ pub equation_fields : (r : Relation) (x : Location) (b k : ℕ) → r.sum ≡ di
     equation_line r ≡ codes "equal " ++ (name_text x ++ (codes " " ++ (octal_text b ++ (codes " " ++ (octal_text k ++ [])))))
 equation_fields r x b k e f few =
     rw (e, f) (sym (equation_text x b k few) ∙ six (codes "equal ") (name_text x) (codes " ") (octal_text b) (codes " ") (octal_text k))
-  where
-    six : (a b c d e f : List ℕ) → a ++ b ++ c ++ d ++ e ++ f ≡ a ++ (b ++ (c ++ (d ++ (e ++ (f ++ [])))))
-    six a b c d e f = simp (append_assoc, append-nil)
 
 -- A word of which the set has none but it.
 pub one_small : (s : Words) (k : ℕ) → s ≡ one k → has_some s ≡ true → k < 4096

@@ -321,7 +321,7 @@ first_exit (ChainIs c) rest n e o f small h t k form is = absurd (false≢true k
 first_exit End rest n e o f small h t k form is = absurd (false≢true k)
 
 -- Each line that is kept is of its form.
-each_followed : (v : Version) (before ls : List Line) → Follow v before ls → Each (IsLine v) ls
+pub each_followed : (v : Version) (before ls : List Line) → Follow v before ls → Each (IsLine v) ls
 each_followed v before [] h = tt
 each_followed v before (l ∷ ls) h = (h.0, each_followed v (l ∷ before) ls h.2)
 

@@ -1,12 +1,12 @@
 -- What a text of any version is read as, line by line.
-use Rattle.std.proofs.Common.{◌≡◌, ◌≢◌, ◌⊎◌, ℕ, ◌+◌, ◌-◌, ◌<◌, ◌≤◌, ◌==◌, Bool, true, false, ◌&&◌, List, [], ◌∷◌, ◌++◌, length, take, drop, Option, Some, None, Ok, Err, refl, ap, ◌∙◌, sym, subst, inl, inr, arith, append_assoc, append-nil}
+use Rattle.std.proofs.Common.{◌≡◌, ◌≢◌, ◌⊎◌, ℕ, ◌+◌, ◌-◌, ◌≤◌, ◌==◌, Bool, true, false, ◌&&◌, List, [], ◌∷◌, ◌++◌, length, drop, Option, Some, None, Ok, Err, refl, ap, ◌∙◌, sym, subst, inl, inr, arith, append_assoc, append-nil}
 use Rattle.std.specs.Prelude.{if◌then◌else◌, codes}
 use Rattle.std.specs.List.{join_with_byte, list_any}
 use Rattle.std.specs.Str.{bytes_eq}
-use Rattle.std.proofs.lemmas.Bool.{ne_eqb, cases_lt, cases_Bool, lt-ltb, le-ltb, and_parts}
+use Rattle.std.proofs.lemmas.Bool.{ne_eqb, cases_Bool, le-ltb, and_parts}
 use Rattle.std.proofs.lemmas.List.{take_all}
 use Rattle.std.proofs.lemmas.List.Concat.{flat_map-append}
-use Rattle.std.proofs.lemmas.List.Splits.{length-slice_split, join_with_byte-slice_split}
+use Rattle.std.proofs.lemmas.List.Splits.{length-slice_split}
 use Rattle.std.proofs.lemmas.Slice.Eq.{bytes_eq-Decides}
 use Rattle.certificate_lines.specs.declared.Version.{Version}
 use Rattle.certificate_lines.specs.declared.Version.TheVariants.{One, Two, Three}
@@ -24,14 +24,13 @@ use Rattle.certificate_lines.specs.Spelling.{line_text, version_text}
 use Rattle.certificate_lines.specs.LineOf.{reads, registers_in, sites_in, site_words, register_words, offsets_of, most_offsets, detail_by, said_by, has_form, line_if, line_of}
 use Rattle.certificate_lines.specs.Order.{may_stand, comes_in_order, has_room, oldest}
 use Rattle.certificate_lines.specs.Reading.{Text, Progress, Start, After, Failed, begun, with_line, after_line, at_last, answer_from, reading}
-use Rattle.certificate_lines.specs.Laws.{RegistersFit, LineFits, bytes_of, ReadAreBytes}
+use Rattle.certificate_lines.specs.Laws.{RegistersFit, LineFits, bytes_of}
 use Rattle.certificate_lines.specs.Line.{Spells}
 use Rattle.certificate_lines.specs.Found.{IsNext, AreInOrder}
 use Rattle.certificate_lines.specs.Spelled.{all_ended}
 use Rattle.certificate_lines.specs.Serving.{front}
 use Rattle.certificate_lines.proofs.TextLemmas.{seam}
-use Rattle.certificate_lines.proofs.TextAnswerLemmas.{last_piece}
-use Rattle.certificate_lines.proofs.LineOfLemmas.{split_at, other_text, set_ends}
+use Rattle.certificate_lines.proofs.LineOfLemmas.{split_at, split_none, other_text, set_ends}
 use Rattle.certificate_lines.proofs.SumLineLemmas.{spelled_is_read}
 
 -- What is read as a line can be spelled in its version.
@@ -138,7 +137,7 @@ module _ (long : Bool) where
       one_piece p line _ (pieces rest) (length-slice_split (λ c. c == 10) rest)
 
   pub end_on : (p : Progress) (rest : List ℕ) → NoFeed rest → answer_from long p (pieces rest) ≡ at_last long p rest
-  end_on p rest h = ap (answer_from long p) (last_piece rest h)
+  end_on p rest h = ap (answer_from long p) (split_none (λ c. c == 10) rest (feeds rest h))
 
   -- A fault stays.
   pub failed : (f : CertificateFault) (ps : List (List ℕ)) → answer_from long (Failed f) ps ≡ Err f

@@ -2,7 +2,7 @@
 use Rattle.std.specs.Prelude.{ℕ, ◌+◌, ◌-◌, ◌/◌, ◌%◌, ◌==◌, Bool, not, ◌&&◌, ◌||◌, if◌then◌else◌, List, [], ◌∷◌, ◌++◌, codes}
 use Rattle.std.proofs.Common.{zero, suc}
 use Rattle.word12.specs.Words.{octal_text}
-use Rattle.wordset.specs.Words.{Words, some_below, has_some}
+use Rattle.wordset.specs.Words.{Words, some_below}
 use Rattle.domain.specs.Locations.{Location, Ac, Cell}
 use Rattle.domain.specs.TrackedCells.{TrackedCell}
 
@@ -21,21 +21,33 @@ begins set a = set a && (a == 0 || not (set (a - 1)))
 abbrev pub ends : Words → ℕ → Bool
 ends set a = set a && (a == 4095 || not (set (a + 1)))
 
--- What is written at a word: where a run begins its first word, after a comma if another came before; where one ends that has
--- more words its last word, after a dash.
-abbrev pub mark : Words → ℕ → List ℕ
-mark set a =
-    (if begins set a then (if some_below a set then codes "," else []) ++ octal_text a else []) ++
-    (if ends set a && not (begins set a) then codes "-" ++ octal_text a else [])
+-- What is written at a number, where a number has this text: where a run begins its first number, after a comma if another came
+-- before; where one ends that has more numbers its last one, after a dash.
+abbrev pub mark : (ℕ → List ℕ) → Words → ℕ → List ℕ
+mark text set a =
+    (if begins set a then (if some_below a set then codes "," else []) ++ text a else []) ++
+    (if ends set a && not (begins set a) then codes "-" ++ text a else [])
 
--- What is written at the words below n, in rising order.
-unfoldable pub marks : ℕ → Words → List ℕ
-marks zero set = []
-marks (suc n) set = marks n set ++ mark set n
+-- What is written at the numbers below n, in rising order.
+unfoldable pub marks : (ℕ → List ℕ) → ℕ → Words → List ℕ
+marks text zero set = []
+marks text (suc n) set = marks text n set ++ mark text set n
 
--- A set of words, - for the empty one.
+-- The numbers of a set that are below n, - where there are none.
+abbrev pub numbers_text : (ℕ → List ℕ) → ℕ → Words → List ℕ
+numbers_text text n set = if some_below n set then marks text n set else codes "-"
+
+-- A set of words.
 abbrev pub set_text : Words → List ℕ
-set_text set = if has_some set then marks 4096 set else codes "-"
+set_text set = numbers_text octal_text 4096 set
+
+-- The two octal digits of a rank or an offset.
+abbrev pub rank_text : ℕ → List ℕ
+rank_text n = (48 + n / 8) ∷ (48 + n % 8) ∷ []
+
+-- A set of offsets of two digits.
+abbrev pub offset_set_text : Words → List ℕ
+offset_set_text set = numbers_text rank_text 64 set
 
 -- The digits below n that are in a set, in rising order.
 unfoldable pub digits : ℕ → Words → List ℕ
@@ -56,10 +68,6 @@ pub record Registers : Type 0 where
   pub ac : Words
   pub mq : Words
   pub link : Words
-
--- The two octal digits of a rank.
-abbrev pub rank_text : ℕ → List ℕ
-rank_text n = (48 + n / 8) ∷ (48 + n % 8) ∷ []
 
 -- The spelling of a routine's line, without its line feed: the entry, the rank in two octal digits, the sites, and the
 -- cells that may be written.

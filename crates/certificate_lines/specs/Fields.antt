@@ -1,21 +1,12 @@
 -- The texts of the fields that version 3 adds; for private contracts.
-use Rattle.std.specs.Prelude.{◌≡◌, ℕ, ◌≤◌, ◌==◌, true, ◌&&◌, ◌||◌, nat_le, Option, List, [], ◌++◌, length, codes, flat_map, if◌then◌else◌}
+use Rattle.std.specs.Prelude.{◌≡◌, ℕ, ◌≤◌, true, ◌&&◌, ◌||◌, nat_le, Option, List, ◌++◌, length, codes, flat_map}
 use Rattle.std.specs.List.{list_all}
 use Rattle.word12.specs.Words.{octal_text}
-use Rattle.wordset.specs.Words.{Words, some_below}
+use Rattle.wordset.specs.Words.{Words}
 use Rattle.domain.specs.Chains.{Step, Operates, Ands, Adds}
-use Rattle.certificate_lines.specs.FieldSpelling.{rank_text}
-use Rattle.certificate_lines.specs.Spelling.{offset_marks, further_text}
+use Rattle.certificate_lines.specs.Spelling.{further_text}
 use Rattle.certificate_lines.specs.LineOf.{is_step}
 use Rattle.certificate_lines.specs.Packed.{third_terms}
-
--- The text of a run of offsets: its first one, and its last one after a dash where that is another.
-abbrev pub offset_run_text : ℕ → ℕ → List ℕ
-offset_run_text low high = rank_text low ++ (if low == high then [] else codes "-" ++ rank_text high)
-
--- The text of a set of offsets as version 3 has it.
-abbrev pub offset_set_text : Words → List ℕ
-offset_set_text s = if some_below 64 s then offset_marks 64 s else codes "-"
 
 -- The set with the numbers from one to another, both of them.
 abbrev pub with_run : ℕ → ℕ → Words → Words

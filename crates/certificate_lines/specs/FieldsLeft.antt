@@ -1,6 +1,5 @@
 -- What the reader of a line's fields has left; it serves private contracts.
 use Rattle.std.specs.Prelude.{◌≡◌, ◌≢◌, ℕ, ◌==◌, List, [], ◌∷◌, ◌++◌, codes, Option, Some, None, IfSome, if◌then◌else◌}
-use Rattle.word12.specs.Words.{octal_text}
 use Rattle.certificate_lines.specs.declared.fields.Fields.{Fields}
 
 -- The bytes that are still to be read, unless something did not read.
@@ -11,9 +10,9 @@ left f = if f.reads then Some f.rest.now else None
 abbrev pub WasFirst : Fields → Fields → List ℕ → Type 0
 WasFirst before after text = IfSome (left after) (λ rest. left before ≡ Some (text ++ rest))
 
--- The text of a run: its first word, and its last word after a dash where that is another.
-abbrev pub run_text : ℕ → ℕ → List ℕ
-run_text low high = octal_text low ++ (if low == high then [] else codes "-" ++ octal_text high)
+-- The text of a run of numbers that have this text: its first one, and its last one after a dash where that is another.
+abbrev pub run_text : (ℕ → List ℕ) → ℕ → ℕ → List ℕ
+run_text text low high = text low ++ (if low == high then [] else codes "-" ++ text high)
 
 -- No dash is next.
 abbrev pub NoDash : List ℕ → Type 0

@@ -1,5 +1,5 @@
 -- What is to be proved of the text of certificates: each line is read as what it was spelled for, and a text is its lines.
-use Rattle.std.specs.Prelude.{◌≡◌, ℕ, true, List, ◌++◌, flat_map, Some, Ok}
+use Rattle.std.specs.Prelude.{◌≡◌, ℕ, true, List, ◌++◌, flat_map, Some}
 use Rattle.wordset.specs.Words.{Words, all_words, nothing, one}
 use Rattle.domain.specs.Locations.{Location}
 use Rattle.domain.specs.Terms.{difference_of}
@@ -11,7 +11,7 @@ use Rattle.certificate_lines.specs.declared.Version.TheVariants.{One, Two, Three
 use Rattle.certificate_lines.specs.Lines.{Line, RoutineIs, FactIs, ExitIs, CellIs, SumIs, ChainIs, End}
 use Rattle.certificate_lines.specs.Spelling.{line_text, version_text}
 use Rattle.certificate_lines.specs.LineOf.{line_of, has_form, most_offsets}
-use Rattle.certificate_lines.specs.Reading.{Text, reading}
+use Rattle.certificate_lines.specs.Reading.{Text}
 
 -- The sites of a fact or an exit can be spelled: in versions 1 and 2 there are none, in version 3 they are words.
 abbrev pub SitesFit : Version → Words → Type 0
@@ -65,7 +65,3 @@ SpelledIsRead = (v : Version) (l : Line) → has_form v l ≡ true → LineFits 
 -- The bytes of a text: its first line and then its lines in order, each with its line feed.
 abbrev pub bytes_of : Text → List ℕ
 bytes_of t = ended (version_text t.version) ++ flat_map (λ l. ended (line_text t.version l)) t.lines
-
--- What is read as a text are its bytes and no others.
-abbrev pub ReadAreBytes : Type 0
-ReadAreBytes = (bytes : List ℕ) (t : Text) → reading bytes ≡ Ok t → bytes ≡ bytes_of t

@@ -1,15 +1,15 @@
 -- What a line of a certificate's text says: its words are read loosely, and then the line's spelling is compared.
-use Rattle.std.specs.Prelude.{ℕ, ◌+◌, ◌-◌, ◌==◌, nat_le, nat_lt, Bool, true, not, ◌&&◌, if◌then◌else◌, codes, List, [], ◌∷◌, length, take, drop, Option, Some, None}
-use Rattle.std.specs.List.{list_any, list_all, slice_split}
+use Rattle.std.specs.Prelude.{ℕ, ◌+◌, ◌-◌, nat_le, nat_lt, Bool, true, not, ◌&&◌, if◌then◌else◌, codes, List, [], ◌∷◌, length, take, drop, Option, Some, None}
+use Rattle.std.specs.List.{list_all}
 use Rattle.std.specs.Str.{bytes_eq}
 use Rattle.wordset.specs.Bits.{has_bit}
 use Rattle.word12.specs.Octal.{octal_value}
-use Rattle.wordset.specs.Words.{Words, nothing, all_words, between, one, some_below, has_some}
+use Rattle.wordset.specs.Words.{Words, nothing, all_words, one, some_below, has_some}
 use Rattle.domain.specs.Locations.{Ac, Cell}
 use Rattle.domain.specs.Terms.{Term, Holding, Behind, Summand, Sum, difference_of, arranged, same_sum}
 use Rattle.domain.specs.Chains.{Step, Operates, Ands, Adds}
 use Rattle.domain.specs.Shapes.{has_shape}
-use Rattle.certificate_lines.specs.LineWords.{words_in, word_at, set_of, offsets_in, links_in, name_of}
+use Rattle.certificate_lines.specs.LineWords.{words_in, word_at, numbers_of, set_of, offsets_in, links_in, name_of}
 use Rattle.certificate_lines.specs.FieldSpelling.{Registers}
 use Rattle.certificate_lines.specs.declared.Version.{Version}
 use Rattle.certificate_lines.specs.declared.Version.TheVariants.{One, Two, Three}
@@ -20,20 +20,11 @@ use Rattle.certificate_lines.specs.Spelling.{line_text}
 abbrev pub reads : List ℕ → List ℕ → Bool
 reads word text = bytes_eq word text
 
--- A run of offsets as it is spelled: its first two digits are those of the first offset, its last two those of the last.
-abbrev pub offset_run_of : List ℕ → Words
-offset_run_of text = between (octal_value (take 2 text)) (octal_value (drop (length text - 2) text))
-
--- A set of offsets as version 3 spells it.
-abbrev pub offset_set_of : List ℕ → Words
-offset_set_of word o =
-    nat_lt o 64 && (not (reads word (codes "-")) && list_any (λ text. offset_run_of text o) (slice_split (λ c. c == 44) word))
-
 -- The offsets, by the version.
 abbrev pub offsets_of : Version → List ℕ → Words
 offsets_of One word = offsets_in word
 offsets_of Two word = offsets_in word
-offsets_of Three word = offset_set_of word
+offsets_of Three word = numbers_of 2 64 word
 
 -- What the words after an address or an exit's offset say of the registers.
 abbrev pub registers_in : Version → List (List ℕ) → Registers

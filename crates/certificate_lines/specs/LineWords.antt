@@ -1,9 +1,9 @@
 -- What the words of a line of a certificate's text say.
-use Rattle.std.specs.Prelude.{ℕ, ◌+◌, ◌-◌, ◌==◌, nat_lt, Bool, ◌&&◌, if◌then◌else◌, codes, List, [], length, take, drop, get_or}
+use Rattle.std.specs.Prelude.{ℕ, ◌+◌, ◌-◌, ◌==◌, nat_lt, Bool, not, ◌&&◌, if◌then◌else◌, codes, List, [], length, take, drop, get_or}
 use Rattle.std.specs.List.{list_any, slice_split}
 use Rattle.std.specs.Str.{bytes_eq}
 use Rattle.word12.specs.Octal.{octal_value}
-use Rattle.wordset.specs.Words.{Words, nothing, between}
+use Rattle.wordset.specs.Words.{Words, between}
 use Rattle.wordset.specs.Links.{links_of}
 use Rattle.domain.specs.Locations.{Location, Ac, Cell}
 
@@ -15,18 +15,20 @@ words_in line = slice_split (λ c. c == 32) line
 abbrev pub word_at : ℕ → List (List ℕ) → List ℕ
 word_at n words = get_or words n []
 
--- A run as it is spelled: one address, or its first and its last one with a dash between them. The first four digits are those of the
--- first address, and the last four those of the last.
-abbrev pub run_of : List ℕ → Words
-run_of text = between (octal_value (take 4 text)) (octal_value (drop (length text - 4) text))
+-- A run as it is spelled with numbers of so many digits: one number, or its first and its last one with a dash between them. The first
+-- digits are those of the first number, and the last ones those of the last.
+abbrev pub run_of : ℕ → List ℕ → Words
+run_of count text = between (octal_value (take count text)) (octal_value (drop (length text - count) text))
 
--- The words that are in one of the runs.
-abbrev pub in_runs : List (List ℕ) → Words
-in_runs texts a = list_any (λ text. run_of text a) texts
+-- The numbers below n of a set as it is spelled with numbers of so many digits: a dash where there are none, else its runs with commas
+-- between them.
+abbrev pub numbers_of : ℕ → ℕ → List ℕ → Words
+numbers_of count n word a =
+    nat_lt a n && (not (bytes_eq word (codes "-")) && list_any (λ text. run_of count text a) (slice_split (λ c. c == 44) word))
 
--- A set of words as it is spelled: a dash where it is empty, else its runs with commas between them.
+-- A set of words.
 abbrev pub set_of : List ℕ → Words
-set_of word a = nat_lt a 4096 && (if bytes_eq word (codes "-") then nothing a else in_runs (slice_split (λ c. c == 44) word) a)
+set_of word a = numbers_of 4 4096 word a
 
 -- The digit is among those of the word.
 abbrev pub has_digit : List ℕ → ℕ → Bool

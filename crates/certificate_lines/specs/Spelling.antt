@@ -1,32 +1,20 @@
 -- The one spelling of each line of a certificate's text, without its line feed.
-use Rattle.std.specs.Prelude.{ℕ, ◌+◌, ◌==◌, not, ◌&&◌, if◌then◌else◌, Option, Some, None, List, [], ◌∷◌, ◌++◌, codes, flat_map}
-use Rattle.std.proofs.Common.{zero, suc}
+use Rattle.std.specs.Prelude.{ℕ, ◌+◌, ◌==◌, if◌then◌else◌, Option, Some, None, List, [], ◌∷◌, ◌++◌, codes, flat_map}
 use Rattle.word12.specs.Words.{octal_text}
-use Rattle.wordset.specs.Words.{Words, some_below, only}
+use Rattle.wordset.specs.Words.{Words, only}
 use Rattle.domain.specs.Terms.{Term, Holding, Behind, Summand, Sum}
 use Rattle.domain.specs.Chains.{Step, Operates, Ands, Adds, Chain}
 use Rattle.domain.specs.Facts.{Relation}
-use Rattle.certificate_lines.specs.FieldSpelling.{Registers, begins, ends, digits, rank_text, set_text, name_text, offsets_text, routine_line, cell_line}
+use Rattle.certificate_lines.specs.FieldSpelling.{Registers, digits, rank_text, set_text, offset_set_text, name_text, offsets_text, routine_line, cell_line}
 use Rattle.certificate_lines.specs.declared.Version.{Version}
 use Rattle.certificate_lines.specs.declared.Version.TheVariants.{One, Two, Three}
 use Rattle.certificate_lines.specs.Lines.{Line, RoutineIs, FactIs, ExitIs, CellIs, SumIs, ChainIs, End}
-
--- What is written at an offset, of two digits, in a set of offsets: as at a word in a set of words.
-abbrev pub offset_mark : Words → ℕ → List ℕ
-offset_mark set o =
-    (if begins set o then (if some_below o set then codes "," else []) ++ rank_text o else []) ++
-    (if ends set o && not (begins set o) then codes "-" ++ rank_text o else [])
-
--- What is written at the offsets below n, in rising order.
-unfoldable pub offset_marks : ℕ → Words → List ℕ
-offset_marks zero set = []
-offset_marks (suc n) set = offset_marks n set ++ offset_mark set n
 
 -- Offsets: in versions 1 and 2 their digits, in version 3 their runs with commas between them; - where there are none.
 abbrev pub offsets_line : Version → Words → List ℕ
 offsets_line One offsets = offsets_text offsets
 offsets_line Two offsets = offsets_text offsets
-offsets_line Three offsets = if some_below 64 offsets then offset_marks 64 offsets else codes "-"
+offsets_line Three offsets = offset_set_text offsets
 
 -- The offset of an exit: one digit in versions 1 and 2, and two in version 3.
 abbrev pub offset_text : Version → ℕ → List ℕ

@@ -70,16 +70,21 @@ impl<'a> Fields<'a> {
         }
     }
 
-    /// Whether some text is next.
-    pub fn begins_with(&self, text: &[u8]) -> bool
-        ensures there { result ≡ true → (rest : List ℕ) × (left self.now ≡ Some (text.now ++ rest)) }
-        ensures only { (rest : List ℕ) → left self.now ≡ Some (text.now ++ rest) → result ≡ true }
+    /// Takes some text, if it is next.
+    pub fn takes_text(&mut self, text: &[u8]) -> bool
+        ensures taken { result ≡ true → IsSomeAnd (left self.new) (λ rest. left self.old ≡ Some (text.now ++ rest)) }
+        ensures kept { result ≡ false → left self.new ≡ left self.old }
+        ensures only { (rest : List ℕ) → left self.old ≡ Some (text.now ++ rest) →
+            (result ≡ true) × (left self.new ≡ Some rest) }
     {
         if !self.reads {
             return false;
         }
         match self.rest.strip_prefix(text) {
-            Some(_rest) => true,
+            Some(rest) => {
+                self.rest = rest;
+                true
+            }
             None => false,
         }
     }
@@ -140,11 +145,11 @@ impl<'a> Fields<'a> {
 
     /// A run of a set's words from `from` on: its first word and its last one.
     fn run(&mut self, from: usize) -> (Word, Word)
-        ensures read { WasFirst self.old self.new (run_text result.0 result.1) }
+        ensures read { WasFirst self.old self.new (run_text octal_text result.0 result.1) }
         ensures order { IfSome (left self.new) (λ rest. (from ≤ result.0) × (result.0 ≤ result.1)) }
         ensures only { (low high : ℕ) (rest : List ℕ) → from ≤ low → low ≤ high → high < 4096 →
             NoDash rest →
-            left self.old ≡ Some (run_text low high ++ rest) →
+            left self.old ≡ Some (run_text octal_text low high ++ rest) →
             (result.0 ≡ low) × (result.1 ≡ high) × (left self.new ≡ Some rest) }
     {
         let low = self.word();
@@ -166,10 +171,10 @@ impl<'a> Fields<'a> {
         ensures front { Begins runs.old.items runs.new.items }
         ensures read { IfSome (left self.new) (λ rest.
             (has_some (added runs.old.items runs.new.items) ≡ true) ×
-            (left self.old ≡ Some (marks 4096 (added runs.old.items runs.new.items) ++ rest))) }
+            (left self.old ≡ Some (marks octal_text 4096 (added runs.old.items runs.new.items) ++ rest))) }
         ensures only { (s : Words) (rest : List ℕ) → length runs.old.items ≤ 4096 →
             has_some s ≡ true → EndsField rest →
-            left self.old ≡ Some (marks 4096 s ++ rest) →
+            left self.old ≡ Some (marks octal_text 4096 s ++ rest) →
             (left self.new ≡ Some rest) × (length runs.new.items ≤ length runs.old.items + 2048) }
     {
         let mut next = 0;

@@ -1,7 +1,6 @@
 //! The fields that version 3 adds, each with one spelling.
 
-ghost use Rattle.std.specs.Prelude.{ℕ, ◌≡◌, ◌<◌, ◌≤◌, ◌==◌, List, [], ◌∷◌, ◌++◌, length, map, take, flat_map, Option, codes, true, false, Some, None, IfSome};
-ghost use Rattle.std.specs.Option.{IsSomeAnd};
+ghost use Rattle.std.specs.Prelude.{ℕ, ◌≡◌, ◌<◌, ◌≤◌, ◌==◌, List, [], ◌∷◌, ◌++◌, length, map, take, flat_map, Option, codes, true, Some, None, IfSome};
 ghost use Rattle.wordset.specs.Words.{Words, some_below};
 ghost use Rattle.domain.specs.InCode.{term_of, summand_of};
 ghost use Rattle.domain.specs.ChainsInCode.{step_of};
@@ -9,9 +8,10 @@ ghost use Rattle.domain.specs.Offsets.{offsets_in};
 ghost use Rattle.domain.specs.Terms as said;
 ghost use Rattle.domain.specs.Chains.{Step as SaidStep};
 ghost use Rattle.certificate_lines.specs.RisingLists.{EndsBefore};
-ghost use Rattle.certificate_lines.specs.FieldsLeft.{left, WasFirst, NoDash, EndsField};
-ghost use Rattle.certificate_lines.specs.Fields.{offset_run_text, offset_set_text, with_run, third_text, step_rest, AreSteps};
-ghost use Rattle.certificate_lines.specs.Spelling.{offset_marks, term_text, coefficient_text, further_text, sum_text, step_text};
+ghost use Rattle.certificate_lines.specs.FieldSpelling.{marks, rank_text, offset_set_text};
+ghost use Rattle.certificate_lines.specs.FieldsLeft.{left, WasFirst, run_text, NoDash, EndsField};
+ghost use Rattle.certificate_lines.specs.Fields.{with_run, third_text, step_rest, AreSteps};
+ghost use Rattle.certificate_lines.specs.Spelling.{term_text, coefficient_text, further_text, sum_text, step_text};
 ghost use Rattle.certificate_lines.specs.LineOf.{is_term, is_relation, is_step};
 ghost use Rattle.certificate_lines.specs.Packed.{third_terms, packed_sum_of};
 
@@ -57,11 +57,11 @@ impl<'a> Fields<'a> {
     fn offset_run(&mut self, from: usize) -> (usize, usize)
         ensures small { result.1 < 64 }
         ensures rising { result.0 ≤ result.1 }
-        ensures read { WasFirst self.old self.new (offset_run_text result.0 result.1) }
+        ensures read { WasFirst self.old self.new (run_text rank_text result.0 result.1) }
         ensures order { IfSome (left self.new) (λ rest. (from ≤ result.0) × (result.0 ≤ result.1)) }
         ensures only { (low high : ℕ) (rest : List ℕ) → from ≤ low → low ≤ high → high < 64 →
             NoDash rest →
-            left self.old ≡ Some (offset_run_text low high ++ rest) →
+            left self.old ≡ Some (run_text rank_text low high ++ rest) →
             (result.0 ≡ low) × (result.1 ≡ high) × (left self.new ≡ Some rest) }
     {
         let low = self.rank();
@@ -83,9 +83,9 @@ impl<'a> Fields<'a> {
     fn offset_runs(&mut self) -> ReturnOffsets
         ensures read { IfSome (left self.new) (λ rest.
             (some_below 64 (offsets_in result) ≡ true) ×
-            (left self.old ≡ Some (offset_marks 64 (offsets_in result) ++ rest))) }
+            (left self.old ≡ Some (marks rank_text 64 (offsets_in result) ++ rest))) }
         ensures only { (s : Words) (rest : List ℕ) → some_below 64 s ≡ true → EndsBefore 64 s → EndsField rest →
-            left self.old ≡ Some (offset_marks 64 s ++ rest) →
+            left self.old ≡ Some (marks rank_text 64 s ++ rest) →
             left self.new ≡ Some rest }
     {
         let mut found = ReturnOffsets::none();
@@ -110,20 +110,6 @@ impl<'a> Fields<'a> {
             return ReturnOffsets::none();
         }
         self.offset_runs()
-    }
-
-    /// Takes some text, if it is next.
-    fn takes_text(&mut self, text: &[u8]) -> bool
-        ensures taken { result ≡ true → IsSomeAnd (left self.new) (λ rest. left self.old ≡ Some (text.now ++ rest)) }
-        ensures kept { result ≡ false → left self.new ≡ left self.old }
-        ensures only { (rest : List ℕ) → left self.old ≡ Some (text.now ++ rest) →
-            (result ≡ true) × (left self.new ≡ Some rest) }
-    {
-        if self.begins_with(text) {
-            self.skip(text);
-            return true;
-        }
-        false
     }
 
     /// A term: `AC`, a cell, or a cell and a number in brackets.

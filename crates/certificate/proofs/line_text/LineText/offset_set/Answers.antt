@@ -1,7 +1,7 @@
 use Rattle.std.proofs.Common.{refl}
 use Rattle.wordset.proofs.Tests.{some_none_of}
 use Rattle.domain.specs.Offsets.{offsets_in}
-use Rattle.certificate_lines.proofs.OffsetTextLemmas.{no_offset_text}
+use Rattle.certificate_lines.proofs.SetLemmas.{no_offset_text}
 use Rattle.certificate.proofs.SumSpelledLemmas.{marks_begun, mark_written, marks_done}
 use Rattle.certificate.proofs.line_text.LineText.offset_set.Goals as goal
 

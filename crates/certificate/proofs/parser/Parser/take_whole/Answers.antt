@@ -2,7 +2,8 @@ use Rattle.std.proofs.Common.{List, ℕ, [], ◌∷◌, ◌++◌, ◌+◌, ◌-�
 use Rattle.std.proofs.lemmas.List.{take-append-le}
 use Rattle.certificate_lines.specs.declared.CertificateFault.TheVariants as faults
 use Rattle.certificate_lines.specs.Pieces.{most_bytes}
-use Rattle.certificate.specs.Parser.{NoFeed, Refuses}
+use Rattle.certificate_lines.specs.LineFeeds.{NoFeed}
+use Rattle.certificate.specs.Parser.{Refuses}
 use Rattle.certificate.proofs.LengthLemmas.{feed_taken}
 use Rattle.certificate.proofs.SumParserLemmas.{then_seen, few_more, whole_line}
 use Rattle.certificate.proofs.SumServedLemmas.{full}

@@ -8,7 +8,7 @@ mod runs;
 mod watcher;
 
 pub use declaration::{Declaration, DeclarationFault, Offsets, Owner, Routine};
-pub use legality::Call;
+pub use legality::{Call, legal_instruction};
 pub use rules::Rule;
 pub use runs::run_declared;
-pub use watcher::{Watched, Watcher, watch};
+pub use watcher::{Watched, Watcher, follow_calls, watch};

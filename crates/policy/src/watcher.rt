@@ -63,8 +63,12 @@ fn is_call<D: Allocator>(declaration: &Declaration<D>, reference: &Reference) ->
 }
 
 /// Puts a call on the call stack, or takes the last one or all away, by what an instruction does.
+///
+/// # Errors
+///
+/// `NoMemory` where room for the call was refused.
 #[inline(always)]
-fn follow_calls<A: Allocator, D: Allocator>(
+pub fn follow_calls<A: Allocator, D: Allocator>(
     calls: &mut Vec<Call, A>,
     declaration: &Declaration<D>,
     instruction: &DecodedInstruction,

@@ -68,6 +68,42 @@ pub trait ByteSink {
         ensures { result ≡ mark self.now };
 }
 
+/// What is lent is read as it is.
+impl<S: ByteSource> ByteSource for &mut S {
+    ghost remaining = { λ source. S.remaining source.now };
+
+    ghost mark = { λ source. S.mark source.now };
+
+    ghost ended = { λ source. S.ended source.now };
+
+    #[inline(always)]
+    fn read(&mut self, piece: &mut [u8]) -> Result<usize, Failed> {
+        (**self).read(piece)
+    }
+
+    #[inline(always)]
+    fn failed(&self) -> bool {
+        (**self).failed()
+    }
+}
+
+/// What is lent is written as it is.
+impl<W: ByteSink> ByteSink for &mut W {
+    ghost taken = { λ sink. W.taken sink.now };
+
+    ghost mark = { λ sink. W.mark sink.now };
+
+    #[inline(always)]
+    fn write(&mut self, piece: &[u8]) -> Result<usize, Failed> {
+        (**self).write(piece)
+    }
+
+    #[inline(always)]
+    fn failed(&self) -> bool {
+        (**self).failed()
+    }
+}
+
 /// Writes a whole piece, in as many writes as it needs.
 ///
 /// # Errors

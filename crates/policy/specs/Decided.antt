@@ -43,10 +43,12 @@ loads Tad = true
 loads Isz = true
 loads _ = false
 
+-- A JMS is the only instruction that calls a routine.
 abbrev pub is_jms : Operation → Bool
 is_jms Jms = true
 is_jms _ = false
 
+-- A JMP is the only instruction that can return from a routine or abandon all calls.
 abbrev pub is_jmp : Operation → Bool
 is_jmp Jmp = true
 is_jmp _ = false

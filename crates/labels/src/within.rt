@@ -12,7 +12,7 @@ ghost use Rattle.labels.specs.Within.{Adds, Declared, DeclaredWithin, after_colo
 use crate::located::{address_on, lacks_some, push_located};
 use instruct::Profile;
 use pal_acts::{PlacedWord, SourcePlace};
-use pal_asm::{AssembleFault, map_source};
+use pal_asm::{AssembleFault, assemble};
 use pal_text::characters::is_character_code;
 use pal_text::{Ending, Line, TextFault, statements};
 use std::alloc::{AllocError, Allocator};
@@ -239,8 +239,8 @@ pub fn declaration_within<A: Allocator + Copy>(
     if !lacks_some(&text) {
         return Ok(text);
     }
-    match map_source(alloc, parts, machine_of(&text)) {
-        Ok(map) => lines_with(alloc, parts, map.words()),
+    match assemble(alloc, parts, machine_of(&text)) {
+        Ok(program) => lines_with(alloc, parts, program.words()),
         Err(AssembleFault::Source(_)) => Ok(text),
         Err(AssembleFault::NoMemory) => Err(AllocError),
     }

@@ -18,7 +18,7 @@ use Rattle.pal_acts.specs.Values.{known}
 use Rattle.pal_acts.specs.declared.act.PlacedWord.{PlacedWord}
 use Rattle.pal_acts.specs.declared.assembly.ActsFault.{ActsFault}
 use Rattle.pal_acts.specs.declared.assembly.ActsFault.TheVariants as refused
-use Rattle.pal_acts.specs.Faults as acts
+use Rattle.pal_acts.specs.Faults.{Refuses as ActsRefuse}
 use Rattle.pal_acts.proofs.First.{one_source, not_both, one_fault}
 use Rattle.pal_asm.specs.declared.number.Radix.{Radix}
 use Rattle.pal_asm.specs.declared.number.Radix.TheVariants.{Octal}
@@ -153,7 +153,7 @@ matched (Ok x) P Q F G ok err p f = p x ok
 matched (Err e) P Q F G ok err p f = f e err
 
 -- a refusal of acts is that of their source
-pub told_so : (perm : List (Name × ℕ)) (acts : List PlacedAct) (r : ActsFault) → acts.Refuses perm 1024 acts r → RefusesActs perm acts (fault_of r)
+pub told_so : (perm : List (Name × ℕ)) (acts : List PlacedAct) (r : ActsFault) → ActsRefuse perm 1024 acts r → RefusesActs perm acts (fault_of r)
 told_so perm acts (refused.Fault place code) h = h
 told_so perm acts refused.NoMemory h = tt
 

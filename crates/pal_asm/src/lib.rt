@@ -18,7 +18,7 @@ mod statement;
 pub mod translation;
 
 pub use fault::{AssembleFault, PalFault};
-pub use listing::ProgramLine;
+pub use listing::{ProgramLine, push_characters};
 pub use pal_acts::{FaultCode, SymbolTable};
 pub use program::{Program, assemble};
 pub use streams::WriteFault;

@@ -173,8 +173,12 @@ fn from_text(bytes: &[u8]) -> &[u8]
     rest
 }
 
-/// Adds the characters of some bytes.
-fn push_characters<A: Allocator>(text: &mut Vec<u8, A>, bytes: &[u8]) -> Result<(), AllocError>
+/// Adds the characters of some bytes: without channel 8, and without bytes that are ignored.
+///
+/// # Errors
+///
+/// Memory was refused.
+pub fn push_characters<A: Allocator>(text: &mut Vec<u8, A>, bytes: &[u8]) -> Result<(), AllocError>
     ensures { OnOk result (text.new.items ≡ text.old.items ++ characters bytes.now) }
 {
     for byte in bytes {

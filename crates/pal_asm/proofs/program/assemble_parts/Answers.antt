@@ -28,6 +28,6 @@ returns-in-Ok-translate_acts-clause-listed g c =
 pub returns-in-Ok-translate_acts-clause-refused : goal.returns-in-Ok-translate_acts-clause-refused
 returns-in-Ok-translate_acts-clause-refused g c = silent_refuses c.program_of.result (permanent_symbols c.args.profile) (texts c.args.parts.now) c.program_of.ensures.memory
 
-pub returns-in-Err-clause-refused : goal.returns-in-Err-clause-refused
-returns-in-Err-clause-refused g c =
+pub returns-clause-refused : goal.returns-clause-refused
+returns-clause-refused g c =
     refuses (permanent_symbols c.args.profile) (texts c.args.parts.now) c.in-Ok.reading.acts (lines_of_fronts c.in-Ok.reading.fronts.items) c.requires c.in-Ok.ensures c.in-Err.fault c.in-Err.ensures.refused

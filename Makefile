@@ -40,7 +40,7 @@ run:
 # somewhere and README.md is not too long, that each edit applies, and that there are not too many edits. Then come every proof from
 # nothing, the edits in must-fail/, every test, and the program. The program that was proved is then used to check that help,
 # docs/COMMANDS.md, man page and completions agree, that the reports of the examples are what the reference makes, that the reasons for
-# refusing forged certificates are true, and to run all cases.
+# refusing forged certificates are true, that no file is lost (as root only), and to run all cases.
 test:
 	python3 tests/definitions.py
 	python3 tests/explanations.py
@@ -50,6 +50,7 @@ test:
 	python3 tests/agreement.py $(BUILT)
 	python3 tests/reports.py $(BUILT)
 	python3 tests/reasons.py $(BUILT) --count 300
+	python3 tests/files.py $(BUILT)
 	python3 tests/cases.py $(BUILT)
 
 # Runs all cases with the program that has been built.

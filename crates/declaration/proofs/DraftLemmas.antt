@@ -1,8 +1,9 @@
--- What a draft says at first, and the declaration that it becomes.
-use Rattle.std.proofs.Common.{ℕ, ◌≡◌, ◌<◌, ◌==◌, ◌&&◌, true, List, [], map, refl, subst, sym, ◌∙◌, ap, Option, Some, None, Result, Ok, Err}
-use Rattle.std.specs.Prelude.{unwrap_or, ok_or}
+-- What a draft says with one line more, and the declaration that it becomes.
+use Rattle.std.proofs.Common.{ℕ, ◌≡◌, ◌<◌, ◌≤◌, ◌==◌, ◌&&◌, Bool, true, false, List, [], map, refl, subst, sym, ◌∙◌, ap, Option, Some, None, Result, Ok, Err}
+use Rattle.std.specs.Prelude.{if◌then◌else◌, unwrap_or, ok_or, IsOk}
 use Rattle.std.specs.Option.{option_map}
 use Rattle.std.proofs.Math.Path.{fun_ext}
+use Rattle.std.proofs.lemmas.Bool.{lt-leb, le-leb}
 use Rattle.instruct.specs.declared.Profile.{Profile}
 use Rattle.instruct.specs.declared.Profile.TheVariants.{Pdp8I}
 use Rattle.wordset.specs.Words.{Words, nothing}
@@ -10,10 +11,10 @@ use Rattle.wordset.specs.Lanes.{words}
 use Rattle.declaration.specs.Declaration.{Declaration, Routine, PlaceAssertion, ReturnAssertion, IsDeclared}
 use Rattle.declaration.specs.DeclarationInCode.{Kept, subroutine_of, place_assertion_of, return_assertion_of, entries, body_of, meaning}
 use Rattle.declaration.specs.Lines.{Subroutine, FurtherOffsets}
-use Rattle.declaration.specs.Text.{Contents, nothing_said, and_then, is_entry, fault_of, declaration_of, unless, whole}
+use Rattle.declaration.specs.Text.{Contents, nothing_said, unless_full, and_then, is_entry, fault_of, declaration_of, unless, whole}
 use Rattle.declaration.specs.Drafts.{gathered, KeepsRules}
 use Rattle.declaration.specs.declared.DeclarationFault.{DeclarationFault}
-use Rattle.declaration.specs.declared.DeclarationFault.TheVariants.{NoStart}
+use Rattle.declaration.specs.declared.DeclarationFault.TheVariants.{NoStart, TooMany}
 use Rattle.declaration.specs.declared.drafts.Draft.{Draft}
 use Rattle.declaration.proofs.RuleLemmas.{any_map, cell_below, in_bodies_below, offsets_said}
 use Rattle.declaration.proofs.IsDeclaredLemmas.{IsDeclared-from}
@@ -40,6 +41,25 @@ parts m r v t u k n b h w = record {
 pub said_nothing : {m v t u n b : Words} {r : List Subroutine} {k : List FurtherOffsets} {h : List PlaceAssertion} {w : List ReturnAssertion} → m ≡ nothing → r ≡ [] → v ≡ nothing → t ≡ nothing → u ≡ nothing → k ≡ [] → n ≡ nothing → b ≡ nothing → h ≡ [] → w ≡ []
     → parts m r v t u k n b h w ≡ nothing_said
 said_nothing em er ev et eu ek en eb eh ew = rw (em, er, ev, et, eu, ek, en, eb, eh, ew) refl
+
+-- ---- one line more
+
+-- a list that may grow, and one that may not
+pub grown : (most count : ℕ) (c d : Contents) → count < most → d ≡ c → unless_full most count c ≡ Ok d
+grown most count c d few same = rw (lt-leb most count few, same) refl
+
+pub fits : (most count : ℕ) (c : Contents) → count < most → IsOk (unless_full most count c)
+fits most count c few = rw (lt-leb most count few) refl
+
+pub full : (most count : ℕ) (c : Contents) → most ≤ count → unless_full most count c ≡ Err TooMany
+full most count c many = rw (le-leb most count many) refl
+
+-- a start or a machine, the first and a second
+pub first_time : (named : Bool) (fault : DeclarationFault) (c d : Contents) → named ≡ false → d ≡ c → (if named then Err fault else Ok c) ≡ Ok d
+first_time named fault c d first same = rw (first, same) refl
+
+pub second_time : (named : Bool) (fault : DeclarationFault) (c : Contents) → named ≡ true → (if named then Err fault else Ok c) ≡ Err fault
+second_time named fault c second = rw second refl
 
 -- ---- the declaration that a draft becomes
 

@@ -100,13 +100,14 @@ fn main(rt: HostRuntime) -> anyhow::Result<()> {
     show_run(&rt, &image, &declaration)?;
     println!(rt; "\nIts declaration says what it may do:\n{DECLARATION}")?;
     show_answer(&rt, &image, &declaration)?;
+    println!(rt; "That is: no run executes, changes or halts at anything else.")?;
     println!(rt; "\nWith one mistake, a store into 0223 in place of 0224, it prints:")?;
     let (at, word) = MISTAKE;
     image.set(Word::from_index(at), Word::from_index(word));
     show_run(&rt, &image, &declaration)?;
     show_answer(&rt, &image, &declaration)?;
     println!(rt;
-        "That is: in some run, event 5, counted from 0, breaks rule 2 and changes another word than the declared ones."
+        "That is: there is a run whose event 5, counted from 0, breaks rule 2 and changes a word that it may not change."
     )?;
     Ok(())
 }

@@ -1,5 +1,5 @@
 -- How much a fact tells of, counted by what it lends.
-use Rattle.std.proofs.Common.{◌≡◌, ℕ, List, length, map, ap, sym, ◌∙◌}
+use Rattle.std.proofs.Common.{◌≡◌, ℕ, List, length, map, ap, sym, ◌∙◌, subst}
 use Rattle.std.proofs.lemmas.List.{length-map}
 use Rattle.domain.specs.declared.cell_sets.CellSet.{CellSet}
 use Rattle.domain.specs.declared.chains.Chain.{Chain}

@@ -37,10 +37,16 @@ fn write_line<A: Allocator>(writer: &mut ReportWriter<'_, A>, caller: usize, cal
         .abs_diff(callee)
         .saturating_mul(ASIDE)
         .saturating_add(130);
-    let (from, to, aside) = (Number(from), Number(to), Number(aside));
     writer.fill(
         "<path class=l d=\"M130 {}C{} {} {} {} 130 {}\" />",
-        &[from, aside, from, aside, to, to],
+        &[
+            Number(from),
+            Number(aside),
+            Number(from),
+            Number(aside),
+            Number(to),
+            Number(to),
+        ],
     );
 }
 
@@ -128,9 +134,9 @@ impl<A: Allocator, D: Allocator, C: Allocator> Report<'_, A, D, C> {
     /// Writes the row of a routine in the table.
     fn write_routine_row(&self, writer: &mut ReportWriter<'_, A>, routine: &Routine) {
         let entry = routine.entry();
+        let offsets = declared_offsets(self.declaration, entry);
         writer.fill("<tr><td>{}", &[Address(entry)]);
         self.write_claimed_columns(writer, entry);
-        let offsets = declared_offsets(self.declaration, entry);
         writer.fill("<td>{}\n", &[Offsets(&offsets)]);
     }
 

@@ -218,26 +218,27 @@ fn push_idle_offsets<L: MessageWriter, D: Allocator, C: Allocator>(
     Ok(())
 }
 
-/// How it is said what the accumulator may hold.
-fn said_of_accumulator(set: &WordSet) -> &'static str {
-    if set.is_all() {
+/// Adds what the accumulator may hold.
+fn push_accumulator<L: MessageWriter>(text: &mut L, set: &WordSet) -> Written {
+    let template = if set.is_all() {
         "AC may be any word"
     } else if set.only().is_some() {
         "AC is {}"
     } else {
         "AC may be {}"
-    }
+    };
+    push_sentence(text, template, &[Words(set)])
 }
 
 /// What is said of what the link may be.
-fn said_of_link(set: &WordSet) -> &'static str {
+fn said_of_link(set: &WordSet) -> &'static [u8] {
     match (
         set.contains(Word::from_index(0)),
         set.contains(Word::from_index(1)),
     ) {
-        (true, true) => "may be 0 or 1",
-        (false, true) => "is 1",
-        (_, false) => "is 0",
+        (true, true) => b", and the link may be 0 or 1\n",
+        (false, true) => b", and the link is 1\n",
+        (_, false) => b", and the link is 0\n",
     }
 }
 
@@ -254,10 +255,8 @@ fn push_returns<L: MessageWriter, D: Allocator, C: Allocator>(
         }
         let by = [Address(entry), Offset(offset)];
         push_sentence(text, "The routine {} returns with offset {}; ", &by)?;
-        let words = [Words(&accumulator)];
-        push_sentence(text, said_of_accumulator(&accumulator), &words)?;
-        let link = said_of_link(&shown.returned(Register::Link, entry, offset));
-        push_sentence(text, ", and the link {}\n", &[Text(link)])?;
+        push_accumulator(text, &accumulator)?;
+        text.push_text(said_of_link(&shown.returned(Register::Link, entry, offset)))?;
     }
     Ok(())
 }

@@ -46,8 +46,7 @@ impl<R: Files> SeenFiles<'_, R> {
     /// Looks at an output, if it is a file, and returns whether it was seen before.
     fn sees_output_again(&mut self, output: Option<&str>) -> Result<bool, AllocError> {
         match output {
-            Some("-" | "/dev/stdout") => Ok(false),
-            Some(name) => self.sees_again(name),
+            Some(name) if name != "-" && name != "/dev/stdout" => self.sees_again(name),
             _ => Ok(false),
         }
     }

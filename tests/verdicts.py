@@ -86,9 +86,9 @@ class Changes:
         return text[:place] + str(self.numbers.randrange(8)) + text[place + 1:]
 
     def with_a_set(self, text):
-        """A set with one word more or less, usually next to a word that it has."""
+        """A set with one word more or less, usually next to a word that it has. A range that another change turned round has no word."""
         found = self.one(SET.finditer(text))
-        members = judge.set_of(found.group())
+        members = max(judge.set_of(found.group()), 0)
         near = [word % 4096 for run in re.findall(r"\d{4}", found.group()) for word in (int(run, 8), int(run, 8) + 1)]
         word = self.one(near) if near and self.numbers.random() < 0.8 else self.numbers.randrange(4096)
         return text[:found.start()] + judge.set_text(members ^ sets.one(word)) + text[found.end():]

@@ -10,13 +10,12 @@ use Rattle.certificate_lines.specs.Found.{AreInOrder, Keeps, unended}
 use Rattle.certificate_lines.specs.Progress.{Tracks}
 use Rattle.certificate_lines.specs.LineFeeds.{NoFeed}
 use Rattle.certificate_lines.specs.Pieces.{most_bytes}
-use Rattle.certificate_lines.specs.Packed.{Packed}
 use Rattle.certificate_lines.specs.CertificateInCode.{Kept, meaning}
 use Rattle.certificate_lines.specs.Reading.{reading}
 use Rattle.certificate_lines.specs.Serving.{Settles, IsUnanswered, AsksForMemory, front}
 
 -- Lines in order of which the text is this and what is kept is that.
-pub record Reached (p : Progress) (text : List ℕ) (kept : Packed) : Type 0 where
+pub record Reached (p : Progress) (text : List ℕ) (kept : List Line) : Type 0 where
   pub before : List Line
   pub order : AreInOrder p.version before
   pub tracks : Tracks p before
@@ -24,12 +23,12 @@ pub record Reached (p : Progress) (text : List ℕ) (kept : Packed) : Type 0 whe
   pub keeps : Keeps kept (unended before)
 
 -- The whole lines that were read.
-abbrev pub HasRead : Option Progress → List ℕ → Packed → Type 0
+abbrev pub HasRead : Option Progress → List ℕ → List Line → Type 0
 HasRead None text kept = (text ≡ []) × Keeps kept []
 HasRead (Some p) text kept = Reached p text kept
 
 -- The bytes are whole lines that were read, of this text, and a line so far, whose bytes are kept unless there are too many.
-pub record Parts (text : List ℕ) (kept : Packed) (progress : Option Progress) (line : List ℕ) (is_long : Bool) (bytes : List ℕ) : Type 0 where
+pub record Parts (text : List ℕ) (kept : List Line) (progress : Option Progress) (line : List ℕ) (is_long : Bool) (bytes : List ℕ) : Type 0 where
   pub tail : List ℕ
   pub split : bytes ≡ text ++ tail
   pub read : HasRead progress text kept
@@ -43,7 +42,7 @@ pub record Seen {A : Type 0} (p : Parser A) (bytes : List ℕ) : Type 0 where
   pub text : List ℕ
   pub parts : Parts text p.kept p.progress p.line.items p.is_long bytes
 
-pub record WasRead (progress : Option Progress) (kept : Packed) : Type 0 where
+pub record WasRead (progress : Option Progress) (kept : List Line) : Type 0 where
   pub text : List ℕ
   pub read : HasRead progress text kept
 

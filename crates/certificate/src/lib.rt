@@ -1,7 +1,7 @@
 //! Certificates: the claims about a program that a checker tests, and their spelling as text.
 #![tactic(auto)]
 
-ghost use Rattle.std.specs.Prelude.{◌≡◌, ◌+◌, ◌*◌, ◌<◌, ◌⊎◌, [], ◌∷◌, true, false, is_some, is_err, None, Ok, Err, Some, IfSome, IfOk, IfErr, OnOk, OnErr, MatchOption};
+ghost use Rattle.std.specs.Prelude.{◌≡◌, ◌+◌, ◌*◌, ◌<◌, ◌⊎◌, [], ◌∷◌, get_or, true, false, is_some, is_err, None, Ok, Err, Some, IfSome, IfOk, IfErr, OnOk, OnErr, MatchOption};
 ghost use Rattle.std.specs.Io.KnownBytes.{Appends};
 ghost use Rattle.streams.specs.Bytes.{AppendsFront};
 ghost use Rattle.certificate_lines.specs.declared.CertificateFault.TheVariants as faults;
@@ -15,13 +15,15 @@ ghost use Rattle.certificate_lines.specs.Made.{SitesAreAdded};
 ghost use Rattle.certificate_lines.specs.Serving.{AsksForMemory};
 ghost use Rattle.certificate_lines.specs.CertificateInCode.{meaning, claims, facts_from, exits_from, IsBeforeFacts, IsBeforeExits, HasShape, Follows};
 ghost use Rattle.certificate.specs.Exact.{AreLines, SpellingLaw, ReadingLaw};
-ghost use Rattle.certificate_lines.specs.Written.{fact_text_at};
+ghost use Rattle.certificate_lines.specs.declared.Version.TheVariants.{Three};
+ghost use Rattle.certificate_lines.specs.Spelled.{all_ended};
+ghost use Rattle.certificate_lines.specs.Written.{facts_lines, fact_text_at};
 
 use crate::parser::Parser;
 use crate::spelling::{put_lines, put_text};
 use certificate_lines::{
-    CertificateFault, CertifiedFact, FIRST_EXIT, FIRST_FACT, PackedLines, RoutineClaim, Version,
-    behind, end_of, fact_line, first_routine, first_said,
+    CertificateFault, CertifiedFact, FIRST_EXIT, FIRST_FACT, LineStore, RoutineClaim, Version,
+    put_fact, routine_of,
 };
 use std::alloc::Allocator;
 use std::marker::Model;
@@ -30,7 +32,6 @@ pub use streams::{NoMemory, WriteFault};
 use thiserror::Error;
 use word12::Word;
 
-mod line_text;
 mod makers;
 mod parser;
 mod pieces;
@@ -42,7 +43,7 @@ mod spelling;
 #[derive(Drop)]
 pub struct Certificate<A: Allocator> {
     version: Version,
-    kept: PackedLines<A>,
+    kept: LineStore<A>,
 }
 
 impl<A: Allocator> Model for Certificate<A> {
@@ -110,9 +111,29 @@ impl<A: Allocator> Certificate<A> {
             (bytes_of (meaning self.now))) }
         ensures marks { W.mark sink.new ≡ is_err result }
     {
-        match put_text(sink, self.version, &self.kept) {
+        match put_text(sink, self.version, self.kept.text()) {
             Ok(()) => Ok(()),
             Err(_) => Err(WriteFault),
+        }
+    }
+
+    /// The text in version 3 of the fact with a number among those at an address, the first of which has number 0; none where
+    /// there are fewer.
+    fn fact_text(&self, at: Word, number: usize) -> &[u8]
+        ensures { result.now ≡ all_ended Three (get_or (facts_lines self.now.lines at) number []) }
+    {
+        let place = FIRST_FACT + at.index();
+        let mut head = self.kept.from(0, place);
+        for _passed in 0..number {
+            if !self.kept.is_at(head, place) {
+                return &[];
+            }
+            head += 1;
+        }
+        if self.kept.is_at(head, place) {
+            self.kept.text_of(head)
+        } else {
+            &[]
         }
     }
 
@@ -135,9 +156,7 @@ impl<A: Allocator> Certificate<A> {
             (fact_text_at (meaning self.now) at number)) }
         ensures marks { W.mark sink.new ≡ is_err result }
     {
-        let start = fact_line(&self.kept, at, number);
-        let end = end_of(&self.kept, start);
-        match put_lines(sink, self.version, &self.kept, start, end) {
+        match put_lines(sink, self.version, self.fact_text(at, number)) {
             Ok(()) => Ok(()),
             Err(_) => Err(WriteFault),
         }
@@ -153,7 +172,7 @@ impl<A: Allocator> Certificate<A> {
         let place = entry.index();
         let at = self.kept.from(0, place);
         if self.kept.is_at(at, place) {
-            first_routine(&self.kept, at)
+            routine_of(self.kept.text_of(at))
         } else {
             None
         }
@@ -235,13 +254,9 @@ impl<A: Allocator> Certificate<A> {
         if !self.kept.is_at(*line, FIRST_FACT + at.index()) {
             return false;
         }
-        match first_said(&self.kept, *line, fact) {
-            Some(end) => {
-                *line = end;
-                true
-            }
-            None => false,
-        }
+        let is_there = put_fact(self.kept.text_of(*line), fact);
+        *line += 1;
+        is_there
     }
 
     /// The same, but what the fact says is passed over.
@@ -257,7 +272,7 @@ impl<A: Allocator> Certificate<A> {
         if !self.kept.is_at(*line, FIRST_FACT + at.index()) {
             return false;
         }
-        *line = behind(&self.kept, *line);
+        *line += 1;
         true
     }
 
@@ -295,13 +310,9 @@ impl<A: Allocator> Certificate<A> {
         {
             return false;
         }
-        match first_said(&self.kept, *line, exit) {
-            Some(end) => {
-                *line = end;
-                true
-            }
-            None => false,
-        }
+        let is_there = put_fact(self.kept.text_of(*line), exit);
+        *line += 1;
+        is_there
     }
 
     /// The same, but what the exit says is passed over.
@@ -321,7 +332,7 @@ impl<A: Allocator> Certificate<A> {
         {
             return false;
         }
-        *line = behind(&self.kept, *line);
+        *line += 1;
         true
     }
 

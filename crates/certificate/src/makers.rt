@@ -3,17 +3,16 @@
 ghost use Rattle.std.specs.Prelude.{◌≡◌, ◌<◌, List, [], ◌∷◌, ◌++◌, map, false, IfOk, OnOk, OnErr};
 ghost use Rattle.wordset.specs.Lanes.{words};
 ghost use Rattle.declaration.specs.DeclarationInCode.{meaning as declared};
-ghost use Rattle.certificate_lines.specs.declared.runs.Run.{Run};
-ghost use Rattle.domain.specs.declared.chains.Step.{Step};
-ghost use Rattle.certificate_lines.specs.RisingLists.{Each};
-ghost use Rattle.certificate_lines.specs.Packed.{said_at, said_lines};
-ghost use Rattle.certificate_lines.specs.Found.{IsLine};
+ghost use Rattle.certificate_lines.specs.declared.said.LineSets.{LineSets};
+ghost use Rattle.certificate_lines.specs.Said.{line_said};
 ghost use Rattle.certificate_lines.specs.Lines.{is_of_sums};
 ghost use Rattle.certificate_lines.specs.CertificateInCode.{meaning, claims};
 ghost use Rattle.certificate_lines.specs.Made.{no_lines, routine_line_of, lines_of_fact, lines_of_exit, MayAdd, with_lines, migrated, sites_at, sites_by, sited_by, with_sites};
 
 use crate::{Certificate, NoMemory};
-use certificate_lines::{CertifiedFact, Claim, PackedLine, PackedLines, RoutineClaim, Version};
+use certificate_lines::{
+    CertifiedFact, Fields, LineRoom, LineStore, RoutineClaim, Subject, Version, next_line,
+};
 use declaration::{Declaration, Owner};
 use std::alloc::{AllocError, Allocator};
 use word12::Word;
@@ -26,7 +25,7 @@ impl<A: Allocator + Copy> Certificate<A> {
     {
         Certificate {
             version,
-            kept: PackedLines::new(alloc),
+            kept: LineStore::new(alloc),
         }
     }
 }
@@ -53,8 +52,7 @@ impl<A: Allocator> Certificate<A> {
             with_lines (routine_line_of entry routine.now ∷ []) (meaning self.old)) }
         ensures same { OnErr result (meaning self.new ≡ meaning self.old) }
     {
-        let line = Claim::Routine(entry, routine.rank as u8, routine);
-        match self.kept.claim(&line) {
+        match self.kept.add_routine(entry, routine) {
             Ok(()) => Ok(()),
             Err(_) => Err(NoMemory),
         }
@@ -72,8 +70,10 @@ impl<A: Allocator> Certificate<A> {
             with_lines (lines_of_fact (meaning self.old).version at fact.now) (meaning self.old)) }
         ensures same { OnErr result (meaning self.new ≡ meaning self.old) }
     {
-        let line = Claim::Fact(self.has_sites(), at, fact);
-        match self.kept.keep_all(&line, fact) {
+        match self
+            .kept
+            .add_fact(&Subject::Fact(at), self.has_sites(), fact)
+        {
             Ok(()) => Ok(()),
             Err(_) => Err(NoMemory),
         }
@@ -97,8 +97,10 @@ impl<A: Allocator> Certificate<A> {
             with_lines (lines_of_exit (meaning self.old).version entry offset fact.now) (meaning self.old)) }
         ensures same { OnErr result (meaning self.new ≡ meaning self.old) }
     {
-        let line = Claim::Exit(self.has_sites(), entry, offset as u8, fact);
-        match self.kept.keep_all(&line, fact) {
+        match self
+            .kept
+            .add_fact(&Subject::Exit(entry, offset), self.has_sites(), fact)
+        {
             Ok(()) => Ok(()),
             Err(_) => Err(NoMemory),
         }
@@ -143,37 +145,39 @@ impl<A: Allocator> Certificate<A> {
     }
 
     /// The sites that a line has by a declaration: those of a fact's address, or of an exit's routine.
-    fn sites_by<B: Allocator>(&self, declaration: &Declaration<B>, line: &PackedLine) -> WordSet
-        ensures { (runs : List Run) (steps : List Step) → words result ≡
-            sites_by (declared declaration.now) (claims self.now) (said_at runs steps line.now) }
+    fn sites_by<B: Allocator>(&self, declaration: &Declaration<B>, said: &Subject) -> WordSet
+        ensures { (sets : LineSets) → words result ≡
+            sites_by (declared declaration.now) (claims self.now) (line_said said.now sets) }
     {
-        match line {
-            PackedLine::Fact(fact) => self.sites_at(declaration, fact.address),
-            PackedLine::Exit(exit) => self.sites_of(exit.entry),
+        match said {
+            Subject::Fact(address) => self.sites_at(declaration, *address),
+            Subject::Exit(entry, _) => self.sites_of(*entry),
             _ => WordSet::empty(),
         }
     }
-}
 
-/// Adds lines of a certificate with their sites by a declaration; where that is refused, some of them.
-fn put_sited<A: Allocator, B: Allocator>(
-    kept: &mut PackedLines<A>,
-    certificate: &Certificate<A>,
-    lines: &PackedLines<A>,
-    declaration: &Declaration<B>,
-) -> Result<(), AllocError>
-    requires { Each (IsLine (meaning certificate.now).version) (said_lines lines.now) }
-    ensures { OnOk result (said_lines kept.new ≡ said_lines kept.old ++
-        map (sited_by (declared declaration.now) (claims certificate.now)) (said_lines lines.now)) }
-{
-    for at in 0..lines.len() {
-        let lent = lines.line(at);
-        let sites = certificate.sites_by(declaration, lent.line);
-        if let Err(refused) = kept.push_sited(&lent, &sites) {
-            return Err(refused);
+    /// Adds its lines to others, with their sites by a declaration; where that is refused, some of them.
+    fn put_sited<B: Allocator>(
+        &self,
+        declaration: &Declaration<B>,
+        kept: &mut LineStore<A>,
+    ) -> Result<(), AllocError>
+        requires { is_of_sums (meaning self.now).version ≡ false }
+        ensures { OnOk result (kept.new ≡ kept.old ++
+            map (sited_by (declared declaration.now) (claims self.now)) self.now.lines) }
+    {
+        let mut room = LineRoom::new();
+        let mut fields = Fields::of(self.kept.text());
+        while !fields.rest().is_empty() {
+            let said = next_line(&mut fields, &mut room.sets);
+            room.sets.sites.set(&self.sites_by(declaration, &said));
+            room.spell(&said);
+            if let Err(refused) = kept.add(&said, &room.sets, room.text.as_bytes()) {
+                return Err(refused);
+            }
         }
+        Ok(())
     }
-    Ok(())
 }
 
 impl<A: Allocator + Copy> Certificate<A> {
@@ -192,8 +196,8 @@ impl<A: Allocator + Copy> Certificate<A> {
         requires { is_of_sums (meaning self.now).version ≡ false }
         ensures { IfOk result (λ c. meaning c ≡ with_sites (declared declaration.now) (meaning self.now)) }
     {
-        let mut kept = PackedLines::new(alloc);
-        match put_sited(&mut kept, self, &self.kept, declaration) {
+        let mut kept = LineStore::new(alloc);
+        match self.put_sited(declaration, &mut kept) {
             Ok(()) => Ok(Certificate {
                 version: Version::Three,
                 kept,

@@ -6,15 +6,18 @@ ghost use Rattle.certificate_lines.specs.declared.Version.{Version as Spelled};
 ghost use Rattle.certificate_lines.specs.Spelling.{version_text};
 ghost use Rattle.certificate_lines.specs.Pieces.{most_bytes};
 ghost use Rattle.certificate_lines.specs.Reading.{reading};
-ghost use Rattle.certificate_lines.specs.Packed.{Packed};
+ghost use Rattle.certificate_lines.specs.Lines.{Line, is_end};
+ghost use Rattle.certificate_lines.specs.Line.{Spells};
+ghost use Rattle.certificate_lines.specs.Said.{line_said};
+ghost use Rattle.certificate_lines.specs.Found.{Keeps, unended};
 ghost use Rattle.certificate_lines.specs.LineFeeds.{NoFeed};
 ghost use Rattle.certificate.specs.Parser.{WasRead, Parts, Seen, IsSmall, Refuses, IsParsed};
 
 use crate::Certificate;
 use arrayvec::ArrayVec;
-use certificate_lines::{CertificateFault, PackedLines, Progress, Runs, Steps, Version};
+use certificate_lines::{CertificateFault, LineRoom, LineStore, Progress, Subject, Version};
 use memchr::memchr;
-use std::alloc::Allocator;
+use std::alloc::{AllocError, Allocator};
 
 /// The most bytes of a certificate's text.
 const MOST_BYTES: usize = 1_048_576;
@@ -24,15 +27,14 @@ const MOST_OF_A_LINE: usize = 49_152;
 
 /// A certificate's text as far as it was taken: what its whole lines say and what that means for
 /// those that follow, the bytes of the line since then, of which there may be too many, and room for
-/// the runs of a line's sets and the steps of a chain.
+/// what is made of one line.
 #[derive(Drop)]
 pub struct Parser<A: Allocator> {
-    kept: PackedLines<A>,
+    kept: LineStore<A>,
     progress: Option<Progress>,
     line: ArrayVec<u8, MOST_OF_A_LINE>,
     is_long: bool,
-    runs: Runs,
-    steps: Steps,
+    room: LineRoom,
     count: usize,
 }
 
@@ -73,12 +75,11 @@ impl<A: Allocator + Copy> Parser<A> {
         ensures count { result.count ≡ 0 }
     {
         Parser {
-            kept: PackedLines::new(alloc),
+            kept: LineStore::new(alloc),
             progress: None,
             line: ArrayVec::new(),
             is_long: false,
-            runs: ArrayVec::new(),
-            steps: ArrayVec::new(),
+            room: LineRoom::new(),
             count: 0,
         }
     }
@@ -88,7 +89,7 @@ impl<A: Allocator + Copy> Parser<A> {
 fn take_first(line: &[u8], progress: &mut Option<Progress>) -> Result<(), CertificateFault>
     requires first { progress.old ≡ None }
     ensures number { IfSome progress.new (λ g. g.number ≤ 2) }
-    ensures taken { (kept : Packed) (text bytes : List ℕ) →
+    ensures taken { (kept : List Line) (text bytes : List ℕ) →
         Parts text kept None line.now false bytes → length bytes < most_bytes →
         MatchResult result (λ u. Parts (text ++ line.now ++ 10 ∷ []) kept progress.new [] false (bytes ++ 10 ∷ []))
         (Refuses (bytes ++ 10 ∷ [])) }
@@ -102,13 +103,34 @@ fn take_first(line: &[u8], progress: &mut Option<Progress>) -> Result<(), Certif
     }
 }
 
-/// Takes a line after the first one, with room for its runs.
+/// Keeps a line that was read; the end is known without it.
+fn keep<A: Allocator>(
+    kept: &mut LineStore<A>,
+    version: Version,
+    said: &Subject,
+    room: &mut LineRoom,
+) -> Result<(), AllocError>
+    requires { Spells version (line_said said.now room.old.sets) room.old.text.bytes.items }
+    ensures kept { (before : List Line) → Keeps kept.old before →
+        OnOk result (Keeps kept.new (unended (line_said said.now room.old.sets ∷ before))) }
+    ensures refused { OnErr result (is_end (line_said said.now room.old.sets) ≡ false) }
+{
+    if said.is_end() {
+        return Ok(());
+    }
+    match version {
+        Version::One | Version::Two => room.spell(said),
+        Version::Three => {}
+    }
+    kept.add(said, &room.sets, room.text.as_bytes())
+}
+
+/// Takes a line after the first one.
 fn take_next<A: Allocator>(
     line: &[u8],
-    kept: &mut PackedLines<A>,
+    kept: &mut LineStore<A>,
     progress: &mut Progress,
-    runs: &mut Runs,
-    steps: &mut Steps,
+    room: &mut LineRoom,
 ) -> Result<(), CertificateFault>
     requires number { progress.old.number < 2 ^ 32 }
     ensures number { progress.new.number ≤ progress.old.number + 1 }
@@ -118,11 +140,10 @@ fn take_next<A: Allocator>(
         (λ u. Parts (text ++ line.now ++ 10 ∷ []) kept.new (Some progress.new) [] false (bytes ++ 10 ∷ []))
         (Refuses (bytes ++ 10 ∷ [])) }
 {
-    runs.clear();
-    steps.clear();
-    match progress.accept(line, runs, steps) {
-        Ok(read) => {
-            let Ok(()) = kept.keep(&read, runs, steps) else {
+    let version = progress.version;
+    match progress.accept(line, &mut room.sets, &mut room.text) {
+        Ok(said) => {
+            let Ok(()) = keep(kept, version, &said, room) else {
                 return Err(CertificateFault::NoMemory);
             };
             Ok(())
@@ -131,13 +152,12 @@ fn take_next<A: Allocator>(
     }
 }
 
-/// Takes a line of a text, with room for its runs.
+/// Takes a line of a text.
 fn take_line<A: Allocator>(
     line: &[u8],
-    kept: &mut PackedLines<A>,
+    kept: &mut LineStore<A>,
     progress: &mut Option<Progress>,
-    runs: &mut Runs,
-    steps: &mut Steps,
+    room: &mut LineRoom,
 ) -> Result<(), CertificateFault>
     requires number { IfSome progress.old (λ g. g.number < 2 ^ 32) }
     ensures number { (n : ℕ) → IfSome progress.old (λ g. g.number ≤ n + 2) →
@@ -150,7 +170,7 @@ fn take_line<A: Allocator>(
 {
     match progress {
         None => take_first(line, progress),
-        Some(progress) => take_next(line, kept, progress, runs, steps),
+        Some(progress) => take_next(line, kept, progress, room),
     }
 }
 
@@ -210,11 +230,10 @@ impl<A: Allocator> Parser<A> {
             kept,
             progress,
             line,
-            runs,
-            steps,
+            room,
             ..
         } = self;
-        let taken = take_line(line, kept, progress, runs, steps);
+        let taken = take_line(line, kept, progress, room);
         line.clear();
         taken
     }
@@ -238,11 +257,10 @@ impl<A: Allocator> Parser<A> {
         let Parser {
             kept,
             progress,
-            runs,
-            steps,
+            room,
             ..
         } = self;
-        take_line(line, kept, progress, runs, steps)
+        take_line(line, kept, progress, room)
     }
 
     /// Takes the rest of a line and its line feed. A line that lies whole in what was given is not copied.
@@ -319,8 +337,7 @@ impl<A: Allocator> Parser<A> {
             progress,
             line,
             is_long,
-            runs: _,
-            steps: _,
+            room: _,
             count: _,
         } = self;
         let Some(progress) = progress else {

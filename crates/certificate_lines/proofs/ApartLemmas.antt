@@ -9,8 +9,8 @@ use Rattle.wordset.specs.Lanes.{words}
 use Rattle.certificate_lines.specs.declared.runs.Run.{Run}
 use Rattle.certificate_lines.specs.FieldsLeft.{run_text}
 use Rattle.certificate_lines.specs.LineText.{IsLastOf}
-use Rattle.certificate_lines.specs.Runs.{joined, set_of_runs, added, StandApart}
-use Rattle.certificate_lines.proofs.PackedLemmas.{joined_more, or_with, in_between, below_between, above_between, still_in, set_is}
+use Rattle.certificate_lines.specs.Runs.{joined, StandApart}
+use Rattle.certificate_lines.proofs.PackedLemmas.{joined_more, or_with, in_between, below_between, above_between, still_in}
 
 -- The text of runs of numbers that have this text: each run after the first has a comma before it.
 abbrev pub more_text : (ℕ → List ℕ) → List Run → List ℕ
@@ -50,30 +50,6 @@ runs_more text (x ∷ rs) r =
     ap (λ (y : List ℕ). run_text text x.first x.last ++ y) (more_on text rs r) ∙
     (sym (append_assoc (run_text text x.first x.last) (more_text text rs) (44 ∷ run_text text r.first r.last)) ∙
     sym (append_assoc (run_text text x.first x.last ++ more_text text rs) (44 ∷ []) (run_text text r.first r.last)))
-
--- There are at most 2048 of them.
-pub few_apart : (n : ℕ) (rs : List Run) → n ≤ 4097 → StandApart n rs → 2 * length rs + n ≤ 4097
-few_apart n [] few h = omega arith
-few_apart n (r ∷ rs) few h =
-    let a : n ≤ r.first = h.0 in
-    let b : r.first ≤ r.last = h.1 in
-    let c : r.last < 4096 = h.2 in
-    let d : 2 * length rs + (r.last + 2) ≤ 4097 = few_apart (r.last + 2) rs (omega arith) h.3 in
-    omega arith
-
--- More runs may stand after those up to an index.
-pub taken : (rs : List Run) (i : ℕ) (r : Run) → i < length rs → r ≡ get_or rs i r → take (i + 1) rs ≡ take i rs ++ r ∷ []
-taken rs i r h is = take_more rs i r h ∙ ap (λ (x : Run). take i rs ++ x ∷ []) (sym is)
-
-pub one_apart : (runs rest : List Run) (i n : ℕ) (r : Run) → i < length runs → r ≡ get_or runs i r →
-    ((rest : List Run) → StandApart n rest → StandApart 0 (take i runs ++ rest)) → n ≤ r.first → r.first ≤ r.last → r.last < 4096 →
-    StandApart (r.last + 2) rest → StandApart 0 (take (i + 1) runs ++ rest)
-one_apart runs rest i n r h is so reached order small more =
-    rw (taken runs i r h is, append_assoc (take i runs) (r ∷ []) rest) (so (r ∷ rest) (reached, order, small, more))
-
-pub all_apart : (runs : List Run) (i n : ℕ) → length runs ≤ i → ((rest : List Run) → StandApart n rest → StandApart 0 (take i runs ++ rest)) →
-    StandApart 0 runs
-all_apart runs i n h so = rw (take_all i runs h, append-nil runs) at (so [] tt)
 
 -- A set and more runs.
 joined_or : (t : Words) (rs : List Run) (v : ℕ) → joined t rs v ≡ (t v || joined nothing rs v)
@@ -167,32 +143,3 @@ closed_all s rs n next h none v a = elim (cases_lt v n) [ inl b ↦ h.same v b a
 
 pub closed_apart : (s : Words) (rs : List Run) (n next : ℕ) → Closed s rs n next → StandApart 0 rs
 closed_apart s rs n next h = rw (append-nil rs) at (h.apart [] tt)
-
--- The runs of a set that were added so far: those of its words below n.
-pub record RunsSofar (old new : List Run) (set : Words) (n : ℕ) : Type 0 where
-  pub more : List Run
-  pub is : new ≡ old ++ more
-  pub closed : Closed set more n n
-
-pub no_runs : (old : List Run) (set : Words) → RunsSofar old old set 0
-no_runs old set = record { more = []; is = sym (append-nil old); closed = none_closed set }
-
-pub run_added : (old now new : List Run) (set others : Words) (n : ℕ) (run : Run) → RunsSofar old now set n → IsFirstFrom n set run.first →
-    IsLastOf others run.first run.last → others ≡ difference all_words set → new ≡ now ++ run ∷ [] → RunsSofar old new set (run.last + 2)
-run_added old now new set others n run s f l are e = record {
-  more = s.more ++ run ∷ [];
-  is = e ∙ (ap (λ (x : List Run). x ++ run ∷ []) s.is ∙ append_assoc old s.more (run ∷ []));
-  closed = found_run set others s.more n run s.closed f l are;
-}
-
-pub few_runs : (old new : List Run) (set : Words) (n : ℕ) → RunsSofar old new set n → length new ≤ length old + 4096
-few_runs old new set n s =
-    let p : 2 * length s.more + 0 ≤ 4097 = few_apart 0 s.more (omega arith) (closed_apart set s.more n n s.closed) in
-    let e : length new ≡ length old + length s.more = ap length s.is ∙ length-append old s.more in omega arith
-
--- All of them were added.
-pub all_runs : (old new : List Run) (lanes : List ℕ) (n : ℕ) → RunsSofar old new (words lanes) n → HasNoneFrom n (words lanes) →
-    added old new ≡ words lanes
-all_runs old new lanes n s none =
-    let e : drop (length old) new ≡ s.more = ap (drop (length old)) s.is ∙ drop_at old s.more (length old) refl in
-    ap set_of_runs e ∙ sym (set_is lanes s.more (closed_all (words lanes) s.more n n s.closed none))

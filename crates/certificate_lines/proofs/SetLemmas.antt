@@ -4,14 +4,13 @@ use Rattle.std.specs.Prelude.{if◌then◌else◌, codes}
 use Rattle.std.proofs.lemmas.Bool.{true≢false, eq-eqb, ne_eqb, cases_lt, cases_Bool}
 use Rattle.std.proofs.Math.Bool.{and-false, or-true}
 use Rattle.word12.specs.Words.{octal_text}
-use Rattle.wordset.specs.Words.{Words, nothing, some_below, has_some}
+use Rattle.wordset.specs.Words.{Words, nothing, between, some_below, has_some}
 use Rattle.wordset.proofs.Tests.{some_from, some_none_of, none_of_some}
 use Rattle.certificate_lines.specs.declared.runs.Run.{Run}
 use Rattle.certificate_lines.specs.FieldSpelling.{begins, ends, mark, marks, numbers_text, rank_text, set_text, offset_set_text}
 use Rattle.certificate_lines.specs.RisingLists.{EndsBefore}
 use Rattle.certificate_lines.specs.FieldsLeft.{run_text}
-use Rattle.certificate_lines.specs.Runs.{joined, set_of_runs, StandApart}
-use Rattle.certificate_lines.proofs.PackedLemmas.{runs_within}
+use Rattle.certificate_lines.specs.Runs.{joined, StandApart}
 use Rattle.certificate_lines.proofs.ApartLemmas.{more_text, runs_text, AllBelow, in_first, past_first, before_all, later}
 
 nothing_more : (b : Bool) (x : List ℕ) → (if b && false then x else []) ≡ []
@@ -209,16 +208,10 @@ runs_down s (suc k) n e =
 pub set_runs : (s : Words) → RunsFrom s 0
 set_runs s = runs_down s 4096 0 (omega arith)
 
-pub text_of : (rs : List Run) → StandApart 0 rs → marks octal_text 4096 (set_of_runs rs) ≡ runs_text octal_text rs
-text_of rs h = text_all octal_text (set_of_runs rs) rs h (λ v a. sym (runs_within rs v a))
-
--- The set of some runs has a word.
-pub some_runs : (n : ℕ) (r : Run) (rs : List Run) → StandApart n (r ∷ rs) → has_some (set_of_runs (r ∷ rs)) ≡ true
-some_runs n r rs h =
-    let order : r.first ≤ r.last = h.1 in
-    let small : r.last < 4096 = h.2 in
-    some_from 4096 (set_of_runs (r ∷ rs)) r.first (omega arith)
-    (sym (runs_within (r ∷ rs) r.first (omega arith)) ∙ in_first r rs r.first (omega arith) order)
+-- The text of one run.
+pub one_run_text : (r : Run) → r.first ≤ r.last → r.last < 4096 → marks octal_text 4096 (between r.first r.last) ≡ run_text octal_text r.first r.last
+one_run_text r order small =
+    text_all octal_text (between r.first r.last) (r ∷ []) (omega arith, order, small, tt) (λ v a. refl) ∙ append-nil (run_text octal_text r.first r.last)
 
 -- The last number of each run is in the set.
 runs_below : (most : ℕ) (s : Words) (n : ℕ) (rs : List Run) → NoneFrom most s → StandApart n rs →

@@ -1,5 +1,5 @@
 -- How a certificate is kept, and what it says.
-use Rattle.std.specs.Prelude.{◌≡◌, ℕ, ◌+◌, ◌*◌, ◌≤◌, true, false, List, [], ◌∷◌, ◌++◌, drop, length}
+use Rattle.std.specs.Prelude.{◌≡◌, ℕ, ◌+◌, ◌*◌, ◌≤◌, true, false, List, [], ◌∷◌, ◌++◌, length}
 use Rattle.domain.specs.Facts.{Fact}
 use Rattle.certificate_lines.specs.declared.Version.{Version}
 use Rattle.certificate_lines.specs.RisingLists.{Each}
@@ -8,25 +8,24 @@ use Rattle.certificate_lines.specs.Lines.{Line, End, is_detail}
 use Rattle.certificate_lines.specs.Order.{place_of_head}
 use Rattle.certificate_lines.specs.Certificate.{Certificate}
 use Rattle.certificate_lines.specs.Reading.{Text, certificate_of, facts_at, exits_at}
-use Rattle.certificate_lines.specs.Packed.{Packed, said_lines}
+use Rattle.certificate_lines.specs.Found.{from_head}
 
--- A certificate as it is kept: the version of its text, and the lines after the first one, packed, except for the
--- end.
+-- A certificate as it is kept: the version of its text, and the lines after the first one, except for the end.
 pub record Kept : Type 0 where
   pub version : Version
-  pub lines : Packed
+  pub lines : List Line
 
 -- The text of a certificate that is kept so.
 abbrev pub meaning : Kept → Text
-meaning c = record { version = c.version; lines = said_lines c.lines ++ End ∷ [] }
+meaning c = record { version = c.version; lines = c.lines ++ End ∷ [] }
 
 -- The certificate that is kept so: what its lines claim of each routine, each address and each exit.
 abbrev pub claims : Kept → Certificate
 claims c = certificate_of (meaning c)
 
--- What is left of the lines of a certificate behind the first i.
+-- What is left of the lines of a certificate from a head on, which is a line that is no detail; the heads are counted from 0.
 abbrev pub lines_from : Kept → ℕ → List Line
-lines_from c i = drop i (meaning c).lines
+lines_from c i = from_head i (meaning c).lines
 
 -- The facts at an address that the lines from one on say, in their order.
 abbrev pub facts_from : Kept → ℕ → ℕ → List Fact

@@ -1,20 +1,14 @@
 -- The texts of the fields that version 3 adds; for private contracts.
-use Rattle.std.specs.Prelude.{◌≡◌, ℕ, ◌≤◌, true, ◌&&◌, ◌||◌, nat_le, Option, List, ◌++◌, length, codes, flat_map}
+use Rattle.std.specs.Prelude.{◌≡◌, ℕ, ◌≤◌, true, ◌&&◌, ◌||◌, nat_le, List, ◌++◌, length, codes}
 use Rattle.std.specs.List.{list_all}
 use Rattle.word12.specs.Words.{octal_text}
 use Rattle.wordset.specs.Words.{Words}
 use Rattle.domain.specs.Chains.{Step, Operates, Ands, Adds}
-use Rattle.certificate_lines.specs.Spelling.{further_text}
 use Rattle.certificate_lines.specs.LineOf.{is_step}
-use Rattle.certificate_lines.specs.Packed.{third_terms}
 
 -- The set with the numbers from one to another, both of them.
 abbrev pub with_run : ℕ → ℕ → Words → Words
 with_run low high s v = s v || (nat_le low v && nat_le v high)
-
--- The text of the terms after the second one, whose coefficient is this.
-abbrev pub third_text : ℕ → Option ℕ → List ℕ
-third_text c cell = flat_map further_text (third_terms c cell)
 
 -- The text of a step without the space before it.
 abbrev pub step_rest : Step → List ℕ

@@ -1,19 +1,16 @@
 -- How lines are found by their places, and which lines are kept.
 use Rattle.std.specs.Prelude.{◌≡◌, ℕ, ◌+◌, ◌≤◌, ◌==◌, nat_le, Bool, true, false, not, ◌&&◌, if◌then◌else◌, List, [], ◌∷◌, length}
-use Rattle.std.specs.List.{AllByRecursion, list_any}
+use Rattle.std.specs.List.{list_any}
+use Rattle.std.proofs.Common.{zero, suc}
 use Rattle.wordset.specs.Lanes.{words}
 use Rattle.domain.specs.Facts.{Fact}
 use Rattle.certificate_lines.specs.declared.RoutineClaim.{RoutineClaim}
-use Rattle.certificate_lines.specs.declared.runs.Run.{Run}
-use Rattle.domain.specs.declared.chains.Step.{Step}
 use Rattle.certificate_lines.specs.declared.Version.{Version}
-use Rattle.certificate_lines.specs.declared.packed.StoredLine.{StoredLine}
 use Rattle.certificate_lines.specs.Lines.{Line, RoutineIs, FactIs, ExitIs, End, is_detail, is_end}
 use Rattle.certificate_lines.specs.Order.{may_stand, comes_in_order, has_room, place_of_head, details_of_last}
 use Rattle.certificate_lines.specs.LineOf.{has_form}
 use Rattle.certificate_lines.specs.Laws.{LineFits}
 use Rattle.certificate_lines.specs.Reading.{cells_under, relations_under, chains_under, fact_said, all_offsets}
-use Rattle.certificate_lines.specs.Packed.{Packed, kept_at, said_lines, IsKept}
 
 -- A line may come next.
 pub record IsNext (v : Version) (before : List Line) (l : Line) : Type 0 where
@@ -47,8 +44,8 @@ unended (End ∷ ls) = ls
 unended (l ∷ ls) = l ∷ ls
 
 -- These lines are kept, of which the newest is the first.
-abbrev pub Keeps : Packed → List Line → Type 0
-Keeps k before = newest_first [] (said_lines k) ≡ before
+abbrev pub Keeps : List Line → List Line → Type 0
+Keeps ls before = newest_first [] ls ≡ before
 
 -- The lines from the first one on that is no detail and has the place or a greater one.
 abbrev pub from_place : ℕ → List Line → List Line
@@ -64,26 +61,17 @@ abbrev pub AreRising : ℕ → List Line → Type 0
 AreRising n [] = Unit {0}
 AreRising n (l ∷ ls) = (n ≤ past n l) × AreRising (past n l) ls
 
--- The place that is kept with the last line, or this one where there is none.
-abbrev pub last_past : ℕ → List StoredLine → ℕ
-last_past n [] = n
-last_past n (k ∷ ks) = last_past k.past ks
-
--- The place that is kept with each line is the least one after it.
-abbrev pub ArePast : List Run → List Step → ℕ → List StoredLine → Type 0
-ArePast runs steps n [] = Unit {0}
-ArePast runs steps n (k ∷ ks) = (k.past ≡ past n (kept_at runs steps k)) × ArePast runs steps k.past ks
-
--- What is kept with each line is so: the runs of its sets lie among all, and so do its steps, and the place is that after it.
-pub record AreKept (runs : List Run) (steps : List Step) (ks : List StoredLine) : Type 0 where
-  pub within : AllByRecursion (IsKept (length runs) (length steps)) ks
-  pub past : ArePast runs steps 0 ks
-
 -- The lines that are kept are in order, so their places do not fall, and the end is not among them.
-pub record IsWhole (v : Version) (k : Packed) : Type 0 where
-  pub order : AreInOrder v (newest_first [] (said_lines k))
-  pub no_end : list_any is_end (newest_first [] (said_lines k)) ≡ false
-  pub rising : AreRising 0 (said_lines k)
+pub record IsWhole (v : Version) (ls : List Line) : Type 0 where
+  pub order : AreInOrder v (newest_first [] ls)
+  pub no_end : list_any is_end (newest_first [] ls) ≡ false
+  pub rising : AreRising 0 ls
+
+-- The lines from a head on, which is a line that is no detail; the heads are counted from 0.
+abbrev pub from_head : ℕ → List Line → List Line
+from_head i [] = []
+from_head zero (l ∷ ls) = if is_detail l then from_head zero ls else l ∷ ls
+from_head (suc i) (l ∷ ls) = if is_detail l then from_head (suc i) ls else from_head i ls
 
 -- A number is the least place of these lines from another one on, or that of the end where there is none.
 abbrev pub least_place : List Line → ℕ

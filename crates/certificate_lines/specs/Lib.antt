@@ -8,7 +8,7 @@ pub mod ReadFaults
 pub mod Runs
 pub mod LineText
 pub mod Certificate
-pub mod Packed
+pub mod Said
 pub mod Fields
 pub mod Lines
 pub mod Spelling
@@ -20,6 +20,7 @@ pub mod Line
 pub mod CertificateInCode
 pub mod Adding
 pub mod Found
+pub mod Stored
 pub mod Progress
 pub mod Serving
 pub mod Made

@@ -16,7 +16,7 @@ use Rattle.certificate_lines.specs.LineOf.{is_relation}
 use Rattle.certificate_lines.specs.Certificate.{Certificate}
 use Rattle.certificate_lines.specs.Reading.{Text, certificate_of}
 use Rattle.certificate_lines.specs.Found.{Follow, newest_first, unended}
-use Rattle.certificate_lines.specs.Packed.{sites_if, registers_in_fact, sited_line}
+use Rattle.certificate_lines.specs.Said.{sites_if, registers_in_fact, sited_line}
 
 -- The line in which a certificate claims rank, sites and written set of the entry e.
 abbrev pub routine_line_of : ℕ → RoutineClaim → Line

@@ -2,16 +2,15 @@
 use Rattle.std.specs.Prelude.{◌≡◌, ℕ, ◌+◌, ◌<◌, Option, Some, None, List, [], ◌∷◌, length, Result, Ok, Err}
 use Rattle.std.specs.List.{list_any}
 use Rattle.certificate_lines.specs.declared.CertificateFault.{CertificateFault}
-use Rattle.certificate_lines.specs.declared.runs.Run.{Run}
-use Rattle.domain.specs.declared.chains.Step.{Step}
 use Rattle.certificate_lines.specs.declared.Version.{Version}
-use Rattle.certificate_lines.specs.declared.packed.PackedLine.{PackedLine}
+use Rattle.certificate_lines.specs.declared.said.Subject.{Subject}
+use Rattle.certificate_lines.specs.declared.said.LineSets.{LineSets}
 use Rattle.certificate_lines.specs.declared.progress.Progress.{Progress}
 use Rattle.certificate_lines.specs.Lines.{Line, RoutineIs, FactIs, ExitIs, CellIs, SumIs, ChainIs, End, is_end, has_details, is_routine, is_cell, is_sum, is_chain}
 use Rattle.certificate_lines.specs.Order.{heads, details_of_last, how_many, place_of_head}
 use Rattle.certificate_lines.specs.Reading.{After, Failed, after_line}
 use Rattle.certificate_lines.specs.Line.{Spells}
-use Rattle.certificate_lines.specs.Packed.{said_at}
+use Rattle.certificate_lines.specs.Said.{line_said}
 use Rattle.certificate_lines.specs.Found.{IsNext}
 
 -- The least place after the newest of the lines.
@@ -19,12 +18,11 @@ abbrev pub next_place : List Line → ℕ
 next_place [] = 0
 next_place (l ∷ ls) = place_of_head l + 1
 
--- The newest of the lines is kept, if there is one, except for its sets and steps, which do not matter for the
--- order.
-abbrev pub IsNewest : Option PackedLine → List Line → Type 0
+-- The newest of the lines is kept, if there is one, except for its sets, which do not matter for the order.
+abbrev pub IsNewest : Option Subject → List Line → Type 0
 IsNewest None ls = ls ≡ []
 IsNewest (Some l) [] = ⊥
-IsNewest (Some l) (m ∷ ls) = (runs : List Run) × ((steps : List Step) × (said_at runs steps l ≡ m))
+IsNewest (Some l) (m ∷ ls) = (sets : LineSets) × (line_said l sets ≡ m)
 
 -- What is kept is that of these lines; their number apart.
 pub record TracksOthers (p : Progress) (before : List Line) : Type 0 where
@@ -57,7 +55,7 @@ pub record Continues (v : Version) (before : List Line) (bytes : List ℕ) (l : 
   pub spells : Spells v l bytes
   pub next : IsNext v before l
 
--- What a call answers that takes the next line, whose runs and steps are these.
-abbrev pub Takes : Version → List Line → List ℕ → Progress → List Run → List Step → Result PackedLine CertificateFault → Type 0
-Takes v before bytes after runs steps (Ok l) = Continues v before bytes (said_at runs steps l) × Tracks after (said_at runs steps l ∷ before)
-Takes v before bytes after runs steps (Err fault) = after_line (After v before) bytes ≡ Failed fault
+-- What a call answers that takes the next line, whose sets are these.
+abbrev pub Takes : Version → List Line → List ℕ → Progress → LineSets → Result Subject CertificateFault → Type 0
+Takes v before bytes after sets (Ok l) = Continues v before bytes (line_said l sets) × Tracks after (line_said l sets ∷ before)
+Takes v before bytes after sets (Err fault) = after_line (After v before) bytes ≡ Failed fault

@@ -1,66 +1,99 @@
-//! The fields of a line, each with one spelling.
+//! The fields of a line. They are read loosely: each is read right where it stands in its own spelling, and what a line of
+//! other bytes says does not matter, since it is spelled and compared with these bytes.
 
-ghost use Rattle.std.specs.Prelude.{ℕ, ◌≡◌, ◌+◌, ◌<◌, ◌≤◌, ◌↔◌, List, [], ◌∷◌, ◌++◌, length, IsTrue, true, false, Some, None, IfSome};
+ghost use Rattle.std.specs.Prelude.{ℕ, ◌≡◌, ◌+◌, ◌<◌, ◌≤◌, ◌%◌, ◌↔◌, List, [], ◌∷◌, ◌++◌, length, map, flat_map, codes, IsTrue, true, false};
 ghost use Rattle.word12.specs.Words.{octal_text};
-ghost use Rattle.std.specs.Option.{IsSomeAnd};
-ghost use Rattle.wordset.specs.Words.{Words, all_words, one, some_below, has_some};
+ghost use Rattle.wordset.specs.Words.{Words, union, between, some_below, has_some};
+ghost use Rattle.wordset.specs.Lanes.{words};
 ghost use Rattle.wordset.specs.Links.{links_of};
 ghost use Rattle.domain.specs.Locations.{Location as Named};
 ghost use Rattle.domain.specs.LocationsInCode.{location_of};
 ghost use Rattle.domain.specs.Offsets.{offsets_in};
-ghost use Rattle.certificate_lines.specs.FieldSpelling.{marks, set_text, digits, offsets_text, name_text, rank_text};
+ghost use Rattle.domain.specs.Terms as said;
+ghost use Rattle.domain.specs.Chains.{Step as SaidStep};
+ghost use Rattle.domain.specs.InCode.{term_of, summand_of, sum_of};
+ghost use Rattle.domain.specs.ChainsInCode.{step_of, chain_of};
+ghost use Rattle.certificate_lines.specs.FieldSpelling.{marks, set_text, digits, offsets_text, offset_set_text, name_text, rank_text};
 ghost use Rattle.certificate_lines.specs.RisingLists.{place_of_name, EndsBefore};
-ghost use Rattle.certificate_lines.specs.Runs.{Begins, added};
-ghost use Rattle.certificate_lines.specs.FieldsLeft.{left, WasFirst, run_text, NoDash, EndsField};
+ghost use Rattle.certificate_lines.specs.FieldsLeft.{left, run_text, NoDash, EndsField, EndsLine};
+ghost use Rattle.certificate_lines.specs.Fields.{with_run, step_rest, AreSteps};
+ghost use Rattle.certificate_lines.specs.Spelling.{term_text, coefficient_text, further_text, sum_text, step_text};
+ghost use Rattle.certificate_lines.specs.LineOf.{is_term, is_relation, is_step};
+ghost use Rattle.certificate_lines.specs.Said.{set_in};
 
-use crate::runs::{Run, Runs};
-use domain::{Location, ReturnOffsets};
+use crate::runs::{LineSet, Run};
+use domain::{Chain, Location, ReturnOffsets, Step, Sum, Summand, Term};
 use word12::Word;
-use wordset::Links;
+use wordset::{Links, WordSet};
 
-/// A line from some field on, or nothing once a field did not read.
+/// No line has more steps.
+const MOST_STEPS: usize = 16;
+
+/// What is left of a line, and of the lines after it.
 #[derive(Clone, Copy, Debug)]
 pub struct Fields<'a> {
     rest: &'a [u8],
-    reads: bool,
+}
+
+/// The number of an octal digit.
+fn digit_of(byte: u8) -> usize
+    ensures { result ≡ byte % 8 }
+{
+    usize::from(byte % 8)
+}
+
+/// Puts the offsets from one to another in, both of them.
+fn insert_offsets(found: &mut ReturnOffsets, first: usize, last: usize)
+    requires { last < 64 }
+    ensures { (v : ℕ) → offsets_in found.new v ≡ with_run first last (offsets_in found.old) v }
+{
+    for offset in first..last + 1 {
+        found.insert(offset);
+    }
+}
+
+/// The links of which the numbers are among these digits.
+fn links_among(digits: ReturnOffsets) -> Links
+    ensures { (k : ℕ) → k < 2 → links_of result k ≡ offsets_in digits k }
+{
+    Links {
+        clear: digits.contains(0),
+        set: digits.contains(1),
+    }
+}
+
+/// Adds the words of a run to a set: quick for one word.
+fn insert_run(run: &Run, place: &mut WordSet)
+    ensures { words place.new ≡ union (words place.old) (between run.now.first run.now.last) }
+{
+    if run.first == run.last {
+        place.insert(run.first);
+        return;
+    }
+    place.insert_range(run.first, run.last);
 }
 
 impl<'a> Fields<'a> {
-    /// The fields of a line.
-    pub fn of(line: &'a [u8]) -> Fields<'a>
-        ensures { left result ≡ Some line.now }
+    /// The fields of lines.
+    pub fn of(lines: &'a [u8]) -> Fields<'a>
+        ensures { left result ≡ lines.now }
     {
-        Fields {
-            rest: line,
-            reads: true,
-        }
+        Fields { rest: lines }
     }
 
-    /// Whether all fields read and nothing is left.
-    pub fn is_done(&self) -> bool
-        ensures { IsTrue result ↔ (left self.now ≡ Some []) }
+    /// The bytes that are left.
+    pub fn rest(&self) -> &'a [u8]
+        ensures { result.now ≡ left self.now }
     {
-        self.reads && self.rest.is_empty()
-    }
-
-    /// A field did not read.
-    pub fn fail(&mut self)
-        ensures { left self.new ≡ None }
-    {
-        self.reads = false;
+        self.rest
     }
 
     /// Takes a byte, if it is the next one.
     pub fn takes(&mut self, byte: u8) -> bool
-        ensures taken { result ≡ true → IsSomeAnd (left self.new)
-            (λ rest. left self.old ≡ Some (byte ∷ rest)) }
+        ensures taken { result ≡ true → left self.old ≡ byte ∷ left self.new }
         ensures kept { result ≡ false → left self.new ≡ left self.old }
-        ensures only { (rest : List ℕ) → left self.old ≡ Some (byte ∷ rest) →
-            (result ≡ true) × (left self.new ≡ Some rest) }
+        ensures only { (rest : List ℕ) → left self.old ≡ byte ∷ rest → (result ≡ true) × (left self.new ≡ rest) }
     {
-        if !self.reads {
-            return false;
-        }
         match self.rest.split_first() {
             Some((first, rest)) if *first == byte => {
                 self.rest = rest;
@@ -71,15 +104,11 @@ impl<'a> Fields<'a> {
     }
 
     /// Takes some text, if it is next.
-    pub fn takes_text(&mut self, text: &[u8]) -> bool
-        ensures taken { result ≡ true → IsSomeAnd (left self.new) (λ rest. left self.old ≡ Some (text.now ++ rest)) }
+    fn takes_text(&mut self, text: &[u8]) -> bool
+        ensures taken { result ≡ true → left self.old ≡ text.now ++ left self.new }
         ensures kept { result ≡ false → left self.new ≡ left self.old }
-        ensures only { (rest : List ℕ) → left self.old ≡ Some (text.now ++ rest) →
-            (result ≡ true) × (left self.new ≡ Some rest) }
+        ensures only { (rest : List ℕ) → left self.old ≡ text.now ++ rest → (result ≡ true) × (left self.new ≡ rest) }
     {
-        if !self.reads {
-            return false;
-        }
         match self.rest.strip_prefix(text) {
             Some(rest) => {
                 self.rest = rest;
@@ -89,192 +118,119 @@ impl<'a> Fields<'a> {
         }
     }
 
+    /// Passes over some text that stands here.
+    pub fn skip(&mut self, text: &[u8])
+        ensures only { (rest : List ℕ) → left self.old ≡ text.now ++ rest → left self.new ≡ rest }
+    {
+        if let Some(rest) = self.rest.strip_prefix(text) {
+            self.rest = rest;
+        }
+    }
+
     /// An octal digit.
     pub fn digit(&mut self) -> usize
         ensures small { result < 8 }
-        ensures read { WasFirst self.old self.new ((48 + result) ∷ []) }
-        ensures only { (d : ℕ) (rest : List ℕ) → d < 8 → left self.old ≡ Some ((48 + d) ∷ rest) →
-            (result ≡ d) × (left self.new ≡ Some rest) }
+        ensures only { (d : ℕ) (rest : List ℕ) → d < 8 → left self.old ≡ (48 + d) ∷ rest →
+            (result ≡ d) × (left self.new ≡ rest) }
+        ensures shorter { length (left self.new) ≤ length (left self.old) }
     {
         match self.rest.split_first() {
-            Some((first, rest)) if is_digit(*first) => {
+            Some((first, rest)) => {
                 self.rest = rest;
                 digit_of(*first)
             }
-            _ => {
-                self.fail();
-                0
-            }
+            None => 0,
         }
     }
 
     /// A word of four octal digits.
     pub fn word(&mut self) -> Word
-        ensures read { WasFirst self.old self.new (octal_text result) }
-        ensures only { (w : ℕ) (rest : List ℕ) → w < 4096 → left self.old ≡
-            Some (octal_text w ++ rest) →
-            (result ≡ w) × (left self.new ≡ Some rest) }
+        ensures only { (w : ℕ) (rest : List ℕ) → w < 4096 → left self.old ≡ octal_text w ++ rest →
+            (result ≡ w) × (left self.new ≡ rest) }
+        ensures shorter { length (left self.new) ≤ length (left self.old) }
     {
         match self.rest {
-            [first, second, third, fourth, rest @ ..]
-                if is_digit(*first) && is_digit(*second) && is_digit(*third) && is_digit(*fourth) =>
-                {
-                    self.rest = rest;
-                    let high = 8 * digit_of(*first) + digit_of(*second);
-                    let low = 8 * digit_of(*third) + digit_of(*fourth);
-                    Word::from_index(64 * high + low)
-                }
-            _ => {
-                self.fail();
-                Word::ZERO
+            [first, second, third, fourth, rest @ ..] => {
+                self.rest = rest;
+                let high = 8 * digit_of(*first) + digit_of(*second);
+                let low = 8 * digit_of(*third) + digit_of(*fourth);
+                Word::from_index(64 * high + low)
             }
+            _ => Word::ZERO,
         }
     }
 
-    /// Some text as it stands here.
-    pub fn skip(&mut self, text: &[u8])
-        ensures read { WasFirst self.old self.new text.now }
-        ensures only { (rest : List ℕ) → left self.old ≡ Some (text.now ++ rest) → left self.new ≡
-            Some rest }
+    /// A rank or an offset, of two octal digits.
+    pub fn rank(&mut self) -> usize
+        ensures small { result < 64 }
+        ensures only { (n : ℕ) (rest : List ℕ) → n < 64 → left self.old ≡ rank_text n ++ rest →
+            (result ≡ n) × (left self.new ≡ rest) }
+        ensures shorter { length (left self.new) ≤ length (left self.old) }
     {
-        match self.rest.strip_prefix(text) {
-            Some(rest) => self.rest = rest,
-            None => self.fail(),
+        let first = self.digit();
+        let second = self.digit();
+        8 * first + second
+    }
+
+    /// A run of a set's words.
+    fn run(&mut self) -> Run
+        ensures only { (low high : ℕ) (rest : List ℕ) → low ≤ high → high < 4096 → NoDash rest →
+            left self.old ≡ run_text octal_text low high ++ rest →
+            (result.first ≡ low) × (result.last ≡ high) × (left self.new ≡ rest) }
+        ensures shorter { length (left self.new) ≤ length (left self.old) }
+    {
+        let first = self.word();
+        if self.takes(b'-') {
+            Run {
+                first,
+                last: self.word(),
+            }
+        } else {
+            Run { first, last: first }
         }
     }
 
-    /// A run of a set's words from `from` on: its first word and its last one.
-    fn run(&mut self, from: usize) -> (Word, Word)
-        ensures read { WasFirst self.old self.new (run_text octal_text result.0 result.1) }
-        ensures order { IfSome (left self.new) (λ rest. (from ≤ result.0) × (result.0 ≤ result.1)) }
-        ensures only { (low high : ℕ) (rest : List ℕ) → from ≤ low → low ≤ high → high < 4096 →
-            NoDash rest →
-            left self.old ≡ Some (run_text octal_text low high ++ rest) →
-            (result.0 ≡ low) × (result.1 ≡ high) × (left self.new ≡ Some rest) }
+    /// Makes a set one of words by its runs, of which there is one at least.
+    fn runs(&mut self, set: &mut WordSet)
+        ensures only { (s : Words) (rest : List ℕ) → EndsBefore 4096 s → has_some s ≡ true → EndsField rest →
+            left self.old ≡ marks octal_text 4096 s ++ rest → (words set.new ≡ s) × (left self.new ≡ rest) }
     {
-        let low = self.word();
-        if low.index() < from {
-            self.fail();
-        }
-        if !self.takes(b'-') {
-            return (low, low);
-        }
-        let high = self.word();
-        if high <= low {
-            self.fail();
-        }
-        (low, high)
-    }
-
-    /// Adds the maximal runs of a set with a word, unless there are more than there is room for.
-    fn runs(&mut self, runs: &mut Runs)
-        ensures front { Begins runs.old.items runs.new.items }
-        ensures read { IfSome (left self.new) (λ rest.
-            (has_some (added runs.old.items runs.new.items) ≡ true) ×
-            (left self.old ≡ Some (marks octal_text 4096 (added runs.old.items runs.new.items) ++ rest))) }
-        ensures only { (s : Words) (rest : List ℕ) → length runs.old.items ≤ 4096 →
-            has_some s ≡ true → EndsField rest →
-            left self.old ≡ Some (marks octal_text 4096 s ++ rest) →
-            (left self.new ≡ Some rest) × (length runs.new.items ≤ length runs.old.items + 2048) }
-    {
-        let mut next = 0;
+        *set = WordSet::empty();
         loop {
-            let (first, last) = self.run(next);
-            let Ok(()) = runs.try_push(Run { first, last }) else {
-                self.fail();
-                return;
-            };
-            next = last.index() + 2;
+            let run = self.run();
+            insert_run(&run, set);
             if !self.takes(b',') {
                 return;
             }
         }
     }
 
-    /// Adds the runs of a set that is not empty, and returns how many there are.
-    pub fn some_set(&mut self, runs: &mut Runs) -> u16
-        ensures front { Begins runs.old.items runs.new.items }
-        ensures count { length runs.old.items + result ≡ length runs.new.items }
-        ensures some { IfSome (left self.new) (λ rest.
-            has_some (added runs.old.items runs.new.items) ≡ true) }
-        ensures read { WasFirst self.old self.new
-            (set_text (added runs.old.items runs.new.items)) }
-        ensures only { (s : Words) (rest : List ℕ) → length runs.old.items ≤ 4096 →
-            has_some s ≡ true → EndsField rest →
-            left self.old ≡ Some (set_text s ++ rest) →
-            (left self.new ≡ Some rest) × (length runs.new.items ≤ length runs.old.items + 2048) }
-    {
-        let before = runs.len();
-        self.runs(runs);
-        (runs.len() - before) as u16
-    }
-
-    /// Adds the runs of a set of words, `-` for the empty one, and returns how many there are.
-    pub fn set(&mut self, runs: &mut Runs) -> u16
-        ensures front { Begins runs.old.items runs.new.items }
-        ensures count { length runs.old.items + result ≡ length runs.new.items }
-        ensures read { WasFirst self.old self.new
-            (set_text (added runs.old.items runs.new.items)) }
-        ensures only { (s : Words) (rest : List ℕ) → length runs.old.items ≤ 4096 →
-            EndsField rest →
-            left self.old ≡ Some (set_text s ++ rest) →
-            (left self.new ≡ Some rest) × (length runs.new.items ≤ length runs.old.items + 2048) }
+    /// A set of words by its runs, `-` where there are none.
+    pub fn set(&mut self, set: &mut LineSet)
+        ensures only { (s : Words) (rest : List ℕ) → EndsBefore 4096 s → EndsField rest →
+            left self.old ≡ set_text s ++ rest → (set_in set.new ≡ s) × (left self.new ≡ rest) }
     {
         if self.takes(b'-') {
-            return 0;
+            set.clear();
+            return;
         }
-        self.some_set(runs)
-    }
-
-    /// Adds the run of all words, of which nothing is written.
-    pub fn all(&mut self, runs: &mut Runs) -> u16
-        ensures front { Begins runs.old.items runs.new.items }
-        ensures count { length runs.old.items + result ≡ length runs.new.items }
-        ensures read { IfSome (left self.new) (λ rest. (left self.old ≡ Some rest) ×
-            (added runs.old.items runs.new.items ≡ all_words)) }
-        ensures only { length runs.old.items ≤ 4096 → left self.new ≡ left self.old }
-    {
-        let first = Word::from_index(0);
-        let last = Word::from_index(4095);
-        match runs.try_push(Run { first, last }) {
-            Ok(()) => 1,
-            Err(_) => {
-                self.fail();
-                0
-            }
+        let before = *self;
+        let run = self.run();
+        if !self.takes(b',') {
+            set.set_run(run.first, run.last);
+            return;
         }
-    }
-
-    /// Adds the run of one word.
-    pub fn one(&mut self, word: Word, runs: &mut Runs) -> u16
-        ensures front { Begins runs.old.items runs.new.items }
-        ensures count { length runs.old.items + result ≡ length runs.new.items }
-        ensures read { IfSome (left self.new) (λ rest. (left self.old ≡ Some rest) ×
-            (added runs.old.items runs.new.items ≡ one word)) }
-        ensures only { length runs.old.items ≤ 4096 → left self.new ≡ left self.old }
-    {
-        let index = word.index();
-        prove!(index < 4096);
-        match runs.try_push(Run {
-            first: word,
-            last: word,
-        }) {
-            Ok(()) => 1,
-            Err(_) => {
-                self.fail();
-                0
-            }
-        }
+        *self = before;
+        set.is_run = false;
+        self.runs(&mut set.whole);
     }
 
     /// Some of the digits below `count`, in rising order.
     fn digits(&mut self, count: usize) -> ReturnOffsets
         requires { count ≤ 8 }
-        ensures read { WasFirst self.old self.new (digits count (offsets_in result)) }
         ensures ends { EndsBefore count (offsets_in result) }
-        ensures only { (s : Words) (rest : List ℕ) → EndsField rest → left self.old ≡
-            Some (digits count s ++ rest) →
-            ((v : ℕ) → v < count → offsets_in result v ≡ s v) × (left self.new ≡ Some rest) }
+        ensures only { (s : Words) (rest : List ℕ) → EndsField rest → left self.old ≡ digits count s ++ rest →
+            ((v : ℕ) → v < count → offsets_in result v ≡ s v) × (left self.new ≡ rest) }
     {
         let mut found = ReturnOffsets::none();
         for digit in 0..count {
@@ -287,54 +243,62 @@ impl<'a> Fields<'a> {
 
     /// Links: `0`, `1` or `01`.
     pub fn links(&mut self) -> Links
-        ensures some { IfSome (left self.new) (λ rest. some_below 2 (links_of result) ≡ true) }
-        ensures read { WasFirst self.old self.new (digits 2 (links_of result)) }
-        ensures only { (s : Words) (rest : List ℕ) → some_below 2 s ≡ true → EndsField rest →
-            left self.old ≡ Some (digits 2 s ++ rest) → left self.new ≡ Some rest }
+        ensures only { (l : Links) (rest : List ℕ) → EndsField rest →
+            left self.old ≡ digits 2 (links_of l) ++ rest → (result ≡ l) × (left self.new ≡ rest) }
     {
-        let links = links_among(self.digits(2));
-        if links.is_empty() {
-            self.fail();
-        }
-        links
+        links_among(self.digits(2))
     }
 
     /// The offsets of a fact in versions 1 and 2: their digits, `-` where there are none.
     pub fn digit_offsets(&mut self) -> ReturnOffsets
         ensures ends { EndsBefore 8 (offsets_in result) }
-        ensures read { WasFirst self.old self.new (offsets_text (offsets_in result)) }
-        ensures only { (s : Words) (rest : List ℕ) → EndsField rest → left self.old ≡
-            Some (offsets_text s ++ rest) → left self.new ≡ Some rest }
+        ensures only { (s : Words) (rest : List ℕ) → EndsBefore 8 s → EndsField rest →
+            left self.old ≡ offsets_text s ++ rest → (offsets_in result ≡ s) × (left self.new ≡ rest) }
     {
         if self.takes(b'-') {
             return ReturnOffsets::none();
         }
-        let offsets = self.digits(8);
-        if offsets.is_empty() {
-            self.fail();
-        }
-        offsets
+        self.digits(8)
     }
 
-    /// A rank, of two octal digits.
-    pub fn rank(&mut self) -> usize
-        ensures small { result < 64 }
-        ensures read { WasFirst self.old self.new (rank_text result) }
-        ensures only { (n : ℕ) (rest : List ℕ) → n < 64 → left self.old ≡
-            Some (rank_text n ++ rest) →
-            (result ≡ n) × (left self.new ≡ Some rest) }
+    /// A run of offsets: its first one and its last one, of two digits each.
+    fn offset_run(&mut self) -> (usize, usize)
+        ensures small { result.1 < 64 }
+        ensures only { (low high : ℕ) (rest : List ℕ) → low ≤ high → high < 64 → NoDash rest →
+            left self.old ≡ run_text rank_text low high ++ rest →
+            (result.0 ≡ low) × (result.1 ≡ high) × (left self.new ≡ rest) }
+        ensures shorter { length (left self.new) ≤ length (left self.old) }
     {
-        let first = self.digit();
-        let second = self.digit();
-        8 * first + second
+        let low = self.rank();
+        if self.takes(b'-') {
+            (low, self.rank())
+        } else {
+            (low, low)
+        }
+    }
+
+    /// The offsets of a fact in version 3: their runs, `-` where there are none.
+    pub fn offset_set(&mut self) -> ReturnOffsets
+        ensures only { (s : Words) (rest : List ℕ) → EndsBefore 64 s → EndsField rest →
+            left self.old ≡ offset_set_text s ++ rest → (offsets_in result ≡ s) × (left self.new ≡ rest) }
+    {
+        let mut found = ReturnOffsets::none();
+        if self.takes(b'-') {
+            return found;
+        }
+        loop {
+            let (first, last) = self.offset_run();
+            insert_offsets(&mut found, first, last);
+            if !self.takes(b',') {
+                return found;
+            }
+        }
     }
 
     /// `AC` or a cell's address.
     pub fn name(&mut self) -> Location
-        ensures read { WasFirst self.old self.new (name_text (location_of result)) }
-        ensures only { (n : Named) (rest : List ℕ) → place_of_name n < 4097 → left self.old ≡
-            Some (name_text n ++ rest) →
-            (location_of result ≡ n) × (left self.new ≡ Some rest) }
+        ensures only { (n : Named) (rest : List ℕ) → place_of_name n < 4097 → left self.old ≡ name_text n ++ rest →
+            (location_of result ≡ n) × (left self.new ≡ rest) }
     {
         if self.takes(b'A') {
             self.skip(b"C");
@@ -342,30 +306,89 @@ impl<'a> Fields<'a> {
         }
         Location::Cell(self.word())
     }
-}
 
-/// Whether a byte is an octal digit.
-fn is_digit(byte: u8) -> bool
-    ensures { IsTrue result ↔ ((48 ≤ byte) × (byte < 56)) }
-{
-    b'0' <= byte && byte < b'8'
-}
+    /// A term: `AC`, a cell, or a cell and a number in brackets.
+    fn term(&mut self) -> Term
+        ensures only { (t : said.Term) (rest : List ℕ) → is_term t ≡ true → left self.old ≡ term_text t ++ rest →
+            (term_of result ≡ t) × (left self.new ≡ rest) }
+    {
+        if !self.takes(b'[') {
+            return Term::Holding(self.name());
+        }
+        let cell = self.word();
+        self.skip(b"+");
+        let more = self.word();
+        self.skip(b"]");
+        Term::Behind { cell, more }
+    }
 
-/// The number that an octal digit stands for.
-fn digit_of(byte: u8) -> usize
-    requires low { 48 ≤ byte }
-    requires high { byte < 56 }
-    ensures { 48 + result ≡ byte }
-{
-    usize::from(byte - b'0')
-}
+    /// A coefficient: `+` for 1, `-` for minus one, else four digits.
+    fn coefficient(&mut self) -> Word
+        ensures only { (c : ℕ) (rest : List ℕ) → c < 4096 → left self.old ≡ coefficient_text c ++ rest →
+            (result ≡ c) × (left self.new ≡ rest) }
+    {
+        if self.takes(b'+') {
+            return Word::from_index(1);
+        }
+        if self.takes(b'-') {
+            return Word::from_index(4095);
+        }
+        self.word()
+    }
 
-/// The links of which the numbers are among these digits.
-fn links_among(digits: ReturnOffsets) -> Links
-    ensures { (k : ℕ) → k < 2 → links_of result k ≡ offsets_in digits k }
-{
-    Links {
-        clear: digits.contains(0),
-        set: digits.contains(1),
+    /// A term after the first one with its coefficient, each after a space.
+    fn summand(&mut self) -> Summand
+        ensures only { (s : said.Summand) (rest : List ℕ) → is_term s.term ≡ true → s.coefficient < 4096 →
+            left self.old ≡ further_text s ++ rest → (summand_of result ≡ s) × (left self.new ≡ rest) }
+    {
+        self.skip(b" ");
+        let coefficient = self.coefficient();
+        self.skip(b" ");
+        let term = self.term();
+        Summand { coefficient, term }
+    }
+
+    /// A sum of two or three terms, and ` in `.
+    pub fn sum(&mut self) -> Sum
+        ensures only { (s : said.Sum) (rest : List ℕ) → is_relation s ≡ true →
+            left self.old ≡ sum_text s ++ codes " in " ++ rest → (sum_of result ≡ s) × (left self.new ≡ rest) }
+    {
+        let mut sum = Sum::of_name(self.name());
+        sum.push(self.summand());
+        if self.takes_text(b" in ") {
+            return sum;
+        }
+        sum.push(self.summand());
+        self.skip(b" in ");
+        sum
+    }
+
+    /// A step after its space.
+    fn step(&mut self) -> Step
+        ensures only { (p : SaidStep) (rest : List ℕ) → is_step p ≡ true → left self.old ≡ step_rest p ++ rest →
+            (step_of result ≡ p) × (left self.new ≡ rest) }
+    {
+        if self.takes_text(b"AND ") {
+            return Step::Ands(self.word());
+        }
+        if self.takes_text(b"TAD ") {
+            return Step::Adds(self.word());
+        }
+        Step::Operates(self.word())
+    }
+
+    /// Adds at most 16 steps to a chain that has none.
+    pub fn steps(&mut self, chain: &mut Chain)
+        requires { (chain_of chain.old).steps ≡ [] }
+        ensures only { (ps : List SaidStep) (rest : List ℕ) → AreSteps ps → EndsLine rest →
+            left self.old ≡ flat_map step_text ps ++ rest →
+            (chain_of chain.new ≡ record (chain_of chain.old) { steps = ps }) × (left self.new ≡ rest) }
+    {
+        for _step in 0..MOST_STEPS {
+            if !self.takes(b' ') {
+                return;
+            }
+            chain.push(self.step());
+        }
     }
 }

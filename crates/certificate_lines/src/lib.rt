@@ -5,21 +5,22 @@ use thiserror::Error;
 use wordset::WordSet;
 
 mod fields;
+mod form;
 mod line;
-mod lines;
-mod packed;
+mod line_text;
 mod progress;
 mod runs;
-mod sum_fields;
+mod said;
+mod store;
+mod told;
 
-pub use lines::{behind, end_of, fact_line, first_routine, first_said};
-pub use packed::sum::PackedSum;
-pub use packed::{
-    CertifiedFact, Claim, LineView, PackedChain, PackedExit, PackedFact, PackedLine, PackedLines,
-    Steps, runs_from,
-};
-pub use progress::{FIRST_EXIT, FIRST_FACT, Progress};
-pub use runs::{PackedRegisters, PackedRoutine, Run, Runs, last_before, set_of, stand_apart};
+pub use fields::Fields;
+pub use line_text::LineText;
+pub use progress::Progress;
+pub use runs::LineSet;
+pub use said::{CertifiedFact, FIRST_EXIT, FIRST_FACT, LineSets, Subject};
+pub use store::{LineRoom, LineStore};
+pub use told::{next_line, put_fact, routine_of};
 
 /// What is claimed of a routine: its rank, below 64 in a certificate, the addresses of the JMS words
 /// that call it, and the cells that it and its callees may write.

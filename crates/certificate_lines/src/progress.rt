@@ -1,26 +1,15 @@
 //! The lines of a certificate, one after another, in all versions.
 
 ghost use Rattle.std.specs.Prelude.{◌≡◌, ◌+◌, ◌<◌, ◌≤◌, ◌^◌, List, [], ◌∷◌, length, true, false, IfOk};
-ghost use Rattle.certificate_lines.specs.declared.runs.Run.{Run};
-ghost use Rattle.domain.specs.declared.chains.Step.{Step};
 ghost use Rattle.certificate_lines.specs.Lines.{Line as SaidLine, is_detail};
 ghost use Rattle.certificate_lines.specs.Order.{may_stand, place_of_head, comes_in_order, has_room, may_be_level, heads, follows_newest};
 ghost use Rattle.certificate_lines.specs.Progress.{Tracks, TracksOthers, Fits, Takes};
-ghost use Rattle.certificate_lines.specs.Packed.{said_at, LiesWithin, IsNumbered};
+ghost use Rattle.certificate_lines.specs.Said.{line_said, IsNumbered};
 
-use crate::line::read_line;
-use crate::packed::{PackedLine, Steps};
-use crate::runs::Runs;
+use crate::line::checked_line;
+use crate::line_text::LineText;
+use crate::said::{LineSets, Subject};
 use crate::{CertificateFault, Version};
-
-/// The place of a fact at 0000; those of routines are their entries.
-pub const FIRST_FACT: usize = 4096;
-
-/// The place of an exit of 0000 by the offset 0.
-pub const FIRST_EXIT: usize = 8192;
-
-/// The place of the end.
-pub const LAST_PLACE: usize = 270_336;
 
 /// What is kept of the lines that were read.
 #[derive(Clone, Copy)]
@@ -33,25 +22,11 @@ pub struct Progress {
     pub ended: bool,
     takes_details: bool,
     next_head: usize,
-    last_detail: Option<PackedLine>,
+    last_detail: Option<Subject>,
     routines: usize,
     cells: usize,
     sums: usize,
     chains: usize,
-}
-
-/// The place of a line among those that are no details, which have the end's.
-pub fn place_of(line: &PackedLine) -> usize
-    requires { IsNumbered line.now }
-    ensures same { (runs : List Run) (steps : List Step) → result ≡ place_of_head (said_at runs steps line.now) }
-    ensures small { result ≤ 270336 }
-{
-    match line {
-        PackedLine::Routine(routine) => routine.entry.index(),
-        PackedLine::Fact(fact) => FIRST_FACT + fact.address.index(),
-        PackedLine::Exit(exit) => FIRST_EXIT + 64 * exit.entry.index() + usize::from(exit.offset),
-        _ => LAST_PLACE,
-    }
 }
 
 impl Progress {
@@ -75,140 +50,137 @@ impl Progress {
     }
 
     /// Whether a line may stand here.
-    fn may_stand(&self, line: &PackedLine) -> bool
-        ensures { (runs : List Run) (steps : List Step) (before : List SaidLine) → Tracks self.now before → result ≡
-            may_stand before (said_at runs steps line.now) }
+    fn may_stand(&self, said: &Subject) -> bool
+        ensures { (sets : LineSets) (before : List SaidLine) → Tracks self.now before →
+            result ≡ may_stand before (line_said said.now sets) }
     {
-        !self.ended && (!line.is_detail() || self.takes_details)
+        !self.ended && (!said.is_detail() || self.takes_details)
     }
 
     /// Whether there is room for a line.
-    fn has_room(&self, line: &PackedLine) -> bool
-        ensures room { (runs : List Run) (steps : List Step) (before : List SaidLine) → Tracks self.now before → result ≡
-            has_room before (said_at runs steps line.now) }
-        ensures fits { result ≡ true → Fits self.now (said_at [] [] line.now) }
+    fn has_room(&self, said: &Subject) -> bool
+        ensures room { (sets : LineSets) (before : List SaidLine) → Tracks self.now before →
+            result ≡ has_room before (line_said said.now sets) }
+        ensures fits { (sets : LineSets) → result ≡ true → Fits self.now (line_said said.now sets) }
     {
-        match line {
-            PackedLine::Routine(_) => self.routines < 64,
-            PackedLine::Cell(_, _) => self.cells < 64,
-            PackedLine::Sum(_, _) => self.sums < 32,
-            PackedLine::Chain(_) => self.chains < 4,
+        match said {
+            Subject::Routine(_, _) => self.routines < 64,
+            Subject::Cell(_) => self.cells < 64,
+            Subject::Sum(_) => self.sums < 32,
+            Subject::Chain(_) => self.chains < 4,
             _ => true,
         }
     }
 
     /// Whether several lines of this kind may stand at one place.
-    fn may_be_level(&self, line: &PackedLine) -> bool
-        ensures { (runs : List Run) (steps : List Step) → result ≡ may_be_level self.now.version (said_at runs steps line.now) }
+    fn may_be_level(&self, said: &Subject) -> bool
+        ensures { (sets : LineSets) → result ≡ may_be_level self.now.version (line_said said.now sets) }
     {
         match self.version {
             Version::One | Version::Two => false,
-            Version::Three => line.has_details(),
+            Version::Three => said.has_details(),
         }
     }
 
     /// Whether a line that is no detail comes in order.
-    fn is_next_head(&self, line: &PackedLine) -> bool
-        requires numbers { IsNumbered line.now }
-        requires head { is_detail (said_at [] [] line.now) ≡ false }
-        ensures { (runs : List Run) (steps : List Step) (before : List SaidLine) → Tracks self.now before →
-            result ≡ follows_newest self.now.version (said_at runs steps line.now) (heads before) }
+    fn is_next_head(&self, said: &Subject) -> bool
+        requires numbers { IsNumbered said.now }
+        requires head { (sets : LineSets) → is_detail (line_said said.now sets) ≡ false }
+        ensures { (sets : LineSets) (before : List SaidLine) → Tracks self.now before →
+            result ≡ follows_newest self.now.version (line_said said.now sets) (heads before) }
     {
-        let place = place_of(line);
-        let is_level = self.may_be_level(line);
+        let place = said.place();
+        let is_level = self.may_be_level(said);
         self.next_head <= place || self.next_head == place + 1 && is_level
     }
 
     /// Whether a line comes in order.
-    fn is_next(&self, line: &PackedLine) -> bool
-        requires numbers { IsNumbered line.now }
-        ensures { (runs : List Run) (steps : List Step) (before : List SaidLine) → Tracks self.now before →
-            result ≡ comes_in_order self.now.version before (said_at runs steps line.now) }
+    fn is_next(&self, said: &Subject) -> bool
+        requires numbers { IsNumbered said.now }
+        ensures { (sets : LineSets) (before : List SaidLine) → Tracks self.now before →
+            result ≡ comes_in_order self.now.version before (line_said said.now sets) }
     {
-        if !line.is_detail() {
-            return self.is_next_head(line);
+        if !said.is_detail() {
+            return self.is_next_head(said);
         }
         match &self.last_detail {
             None => true,
-            Some(last) => last.is_before(line),
+            Some(last) => last.is_before(said),
         }
     }
 
     /// Keeps what a line says for those after it.
-    fn add(&mut self, line: &PackedLine)
+    fn add(&mut self, said: &Subject)
         requires number { self.old.number < 2 ^ 32 }
-        requires numbers { IsNumbered line.now }
-        requires fits { Fits self.old (said_at [] [] line.now) }
+        requires numbers { IsNumbered said.now }
+        requires fits { (sets : LineSets) → Fits self.old (line_said said.now sets) }
         ensures version { self.new.version ≡ self.old.version }
         ensures number { self.new.number ≡ self.old.number + 1 }
-        ensures lines { (runs : List Run) (steps : List Step) (before : List SaidLine) → Tracks self.old before →
-            Tracks self.new (said_at runs steps line.now ∷ before) }
+        ensures lines { (sets : LineSets) (before : List SaidLine) → Tracks self.old before →
+            Tracks self.new (line_said said.now sets ∷ before) }
     {
         self.number += 1;
-        match line {
-            PackedLine::Cell(_, _) => self.cells += 1,
-            PackedLine::Sum(_, _) => self.sums += 1,
-            PackedLine::Chain(_) => self.chains += 1,
+        match said {
+            Subject::Cell(_) => self.cells += 1,
+            Subject::Sum(_) => self.sums += 1,
+            Subject::Chain(_) => self.chains += 1,
             _ => {
-                self.add_head(line);
+                self.add_head(said);
                 return;
             }
         }
-        self.last_detail = Some(*line);
+        self.last_detail = Some(*said);
     }
 
     /// The same of a line that is not a detail.
-    fn add_head(&mut self, line: &PackedLine)
-        requires head { is_detail (said_at [] [] line.now) ≡ false }
-        requires numbers { IsNumbered line.now }
-        requires fits { Fits self.old (said_at [] [] line.now) }
+    fn add_head(&mut self, said: &Subject)
+        requires head { (sets : LineSets) → is_detail (line_said said.now sets) ≡ false }
+        requires numbers { IsNumbered said.now }
+        requires fits { (sets : LineSets) → Fits self.old (line_said said.now sets) }
         ensures version { self.new.version ≡ self.old.version }
         ensures number { self.new.number ≡ self.old.number }
-        ensures lines { (runs : List Run) (steps : List Step) (before : List SaidLine) → TracksOthers self.old before →
-            TracksOthers self.new (said_at runs steps line.now ∷ before) }
+        ensures lines { (sets : LineSets) (before : List SaidLine) → TracksOthers self.old before →
+            TracksOthers self.new (line_said said.now sets ∷ before) }
     {
-        self.next_head = place_of(line) + 1;
+        self.next_head = said.place() + 1;
         self.last_detail = None;
         self.cells = 0;
         self.sums = 0;
         self.chains = 0;
-        match line {
-            PackedLine::Routine(_) => self.routines += 1,
-            PackedLine::Fact(_) | PackedLine::Exit(_) => self.takes_details = true,
+        match said {
+            Subject::Routine(_, _) => self.routines += 1,
+            Subject::Fact(_) | Subject::Exit(_, _) => self.takes_details = true,
             _ => self.ended = true,
         }
     }
 
-    /// Takes the next line; the runs of its sets and the steps of a chain are added.
+    /// Takes the next line, whose sets and text are then in the room that is lent for them.
     pub fn accept(
         &mut self,
-        bytes: &[u8],
-        runs: &mut Runs,
-        steps: &mut Steps,
-    ) -> Result<PackedLine, CertificateFault>
+        line: &[u8],
+        sets: &mut LineSets,
+        text: &mut LineText,
+    ) -> Result<Subject, CertificateFault>
         requires number { self.old.number < 2 ^ 32 }
-        requires runs { runs.old.items ≡ [] }
-        requires steps { steps.old.items ≡ [] }
         ensures version { self.new.version ≡ self.old.version }
         ensures number { self.new.number ≤ self.old.number + 1 }
-        ensures within { IfOk result (LiesWithin (length runs.new.items) (length steps.new.items)) }
-        ensures numbers { IfOk result IsNumbered }
+        ensures text { IfOk result (λ said. text.new.bytes.items ≡ line.now) }
         ensures lines { (before : List SaidLine) → Tracks self.old before →
-            Takes self.old.version before bytes.now self.new runs.new.items steps.new.items result }
+            Takes self.old.version before line.now self.new sets.new result }
     {
-        let Some(line) = read_line(self.version, bytes, runs, steps) else {
+        let Some(said) = checked_line(self.version, line, sets, text) else {
             return Err(CertificateFault::BadLine(self.number));
         };
-        if !self.may_stand(&line) {
+        if !self.may_stand(&said) {
             return Err(CertificateFault::BadLine(self.number));
         }
-        if !self.is_next(&line) {
+        if !self.is_next(&said) {
             return Err(CertificateFault::Order(self.number));
         }
-        if !self.has_room(&line) {
+        if !self.has_room(&said) {
             return Err(CertificateFault::TooMany);
         }
-        self.add(&line);
-        Ok(line)
+        self.add(&said);
+        Ok(said)
     }
 }

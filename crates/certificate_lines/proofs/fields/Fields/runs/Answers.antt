@@ -1,32 +1,25 @@
-use Rattle.std.proofs.Common.{refl}
+use Rattle.std.proofs.Common.{refl, ap, ◌∙◌}
 use Rattle.word12.specs.Words.{octal_text}
+use Rattle.wordset.specs.Words.{union}
+use Rattle.wordset.specs.Lanes.{words}
 use Rattle.certificate_lines.specs.FieldsLeft.{left}
-use Rattle.certificate_lines.proofs.RunLemmas.{no_words_read, words_go_on, no_room, ending, shorter}
+use Rattle.certificate_lines.proofs.RunLemmas.{none_read, going_on, ended_here, words_read, shorter}
 use Rattle.certificate_lines.proofs.fields.Fields.runs.Goals as goal
 
 pub loop-self-init : goal.loop-self-init
-loop-self-init c = no_words_read (left c.args.self.now) c.args.runs.now.items
-
-pub returns-in_default : goal.returns-in_default
-returns-in_default c =
-    let a = no_room (left c.args.self.now) (left c.loop-self.self) (left c.fail.new.self) c.args.runs.now.items c.loop-self.runs.items c.loop-self.next
-    c.loop-self.invariant c.in_default.ensures.full c.fail.ensures in
-    rw c.in_default.ensures.err (record { front = a.front; read = a.read; only = a.only })
-
-pub returns-then-not-takes : goal.returns-then-not-takes
-returns-then-not-takes c =
-    let a = ending (left c.args.self.now) (left c.loop-self.self) (left c.run-first.new.self) (left c.takes.new.self) c.args.runs.now.items c.loop-self.runs.items c.try_push.new.self.items
-    c.loop-self.next c.index-next.result (record { first = c.run-first.result.0; last = c.run-first.result.1 }) c.loop-self.invariant (record { read = c.run-first.ensures.read; order = c.run-first.ensures.order; only = c.run-first.ensures.only }) c.index-next.ensures.same c.index-next.ensures.small c.in-Ok.ensures.ok
-    (c.if-not-takes.ensures.kept refl) c.if-not-takes.ensures.only in
-    record { front = a.front; read = a.read; only = a.only }
-
-pub loop-self-smaller : goal.loop-self-smaller
-loop-self-smaller c =
-    shorter octal_text (left c.loop-self.self) (left c.run-first.new.self) (left c.takes.new.self) c.run-first.result.0 c.run-first.result.1 c.run-first.ensures.read
-    (c.if-not-takes.ensures.taken refl)
+loop-self-init c = none_read octal_text 4096 (left c.args.self.now) (words c.empty.result) c.empty.ensures
 
 pub loop-self-preserved : goal.loop-self-preserved
 loop-self-preserved c =
-    words_go_on (left c.args.self.now) (left c.loop-self.self) (left c.run-first.new.self) (left c.takes.new.self) c.args.runs.now.items c.loop-self.runs.items
-    c.try_push.new.self.items c.loop-self.next c.index-next.result (record { first = c.run-first.result.0; last = c.run-first.result.1 }) c.loop-self.invariant (record { read = c.run-first.ensures.read; order = c.run-first.ensures.order; only = c.run-first.ensures.only }) c.index-next.ensures.same c.index-next.ensures.small
-    c.in-Ok.ensures.ok (c.if-not-takes.ensures.taken refl) c.if-not-takes.ensures.only
+    going_on octal_text 4096 (words c.loop-self.set) (words c.insert_run.new.place) (left c.loop-self.self) (left c.run-run.new.self) c.run-run.result c.run-run.ensures.only
+    c.insert_run.ensures (left c.args.self.now) (left c.takes.new.self) c.loop-self.invariant (c.if-not-takes.ensures.taken refl)
+
+pub loop-self-smaller : goal.loop-self-smaller
+loop-self-smaller c = shorter (left c.loop-self.self) (left c.run-run.new.self) (left c.takes.new.self) c.run-run.ensures.shorter (c.if-not-takes.ensures.taken refl)
+
+pub returns-then-not-takes : goal.returns-then-not-takes
+returns-then-not-takes c =
+    words_read (left c.args.self.now) (left c.takes.new.self) (words c.insert_run.new.place) (record {
+      all = ended_here octal_text 4096 (words c.loop-self.set) (words c.insert_run.new.place) (left c.loop-self.self) (left c.run-run.new.self) c.run-run.result c.run-run.ensures.only
+          c.insert_run.ensures (left c.args.self.now) (left c.takes.new.self) c.loop-self.invariant (c.if-not-takes.ensures.kept refl) c.if-not-takes.ensures.only;
+    })

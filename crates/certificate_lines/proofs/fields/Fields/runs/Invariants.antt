@@ -1,9 +1,12 @@
+use Rattle.std.proofs.Common.{length}
+use Rattle.word12.specs.Words.{octal_text}
+use Rattle.wordset.specs.Lanes.{words}
 use Rattle.certificate_lines.specs.FieldsLeft.{left}
-use Rattle.certificate_lines.proofs.RunLemmas.{WordsRead, how_long}
+use Rattle.certificate_lines.proofs.RunLemmas.{Reads}
 use Rattle.certificate_lines.proofs.fields.Fields.runs.Given as goal
 
 abbrev pub invariant-loop-self : goal.invariant-loop-self
-invariant-loop-self l = WordsRead (left l.fn.self) (left l.self) l.fn.runs.items l.runs.items l.next
+invariant-loop-self l = Reads octal_text 4096 (left l.fn.self) (words l.set) (left l.self)
 
 abbrev pub decreases-loop-self : goal.decreases-loop-self
-decreases-loop-self l = how_long (left l.self)
+decreases-loop-self l = length (left l.self)

@@ -1,6 +1,0 @@
-use Rattle.certificate.proofs.ParserLemmas.{is_full}
-use Rattle.certificate.proofs.SpelledLemmas.{dropped}
-use Rattle.certificate.proofs.line_text.LineText.push.Goals as goal
-
-pub returns-else-not-is_full-clause-adds : goal.returns-else-not-is_full-clause-adds
-returns-else-not-is_full-clause-adds c = dropped _ _ (is_full _ _ c.if-not-is_full.ensures.value)

@@ -1,5 +1,0 @@
-use Rattle.certificate.proofs.SpelledLemmas.{joined}
-use Rattle.certificate.proofs.line_text.LineText.written_mq.Goals as goal
-
-pub returns : goal.returns
-returns c = joined _ _ _ _ _ c.text.ensures c.set_in.ensures

@@ -1,0 +1,11 @@
+use Rattle.certificate_lines.proofs.SpelledLemmas.{none}
+use Rattle.certificate_lines.proofs.line_text.LineText.mq.Goals as goal
+
+pub returns-in-One : goal.returns-in-One
+returns-in-One c = rw c.in-One.is (none c.args.self.now.bytes.items)
+
+pub returns-in-Two : goal.returns-in-Two
+returns-in-Two c = rw c.in-Two.is c.written_mq.ensures
+
+pub returns-in-Three : goal.returns-in-Three
+returns-in-Three c = rw c.in-Three.is c.written_mq-in-Three.ensures

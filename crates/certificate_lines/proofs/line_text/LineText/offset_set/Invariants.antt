@@ -1,0 +1,7 @@
+use Rattle.domain.specs.Offsets.{offsets_in}
+use Rattle.certificate_lines.specs.FieldSpelling.{marks, rank_text}
+use Rattle.certificate_lines.specs.LineText.{Adds}
+use Rattle.certificate_lines.proofs.line_text.LineText.offset_set.Given as goal
+
+abbrev pub invariant-loop-offset : goal.invariant-loop-offset
+invariant-loop-offset l = Adds l.fn.self.bytes.items l.self.bytes.items (marks rank_text l.offset (offsets_in l.offsets))

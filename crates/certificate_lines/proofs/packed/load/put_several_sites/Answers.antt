@@ -1,7 +1,0 @@
-use Rattle.std.proofs.Common.{◌∙◌, ap}
-use Rattle.wordset.specs.Words.{Words}
-use Rattle.domain.specs.FactInCode.{fact_in_code}
-use Rattle.certificate_lines.proofs.packed.load.put_several_sites.Goals as goal
-
-pub returns-clause-fact : goal.returns-clause-fact
-returns-clause-fact c = c.set_sites.ensures.fact ∙ ap (λ (set : Words). record (fact_in_code c.args.fact.now) { sites = set }) c.set_in.ensures

@@ -22,7 +22,7 @@ use Rattle.certificate_lines.specs.Reading.{Text, Progress, Start, After, Failed
 use Rattle.certificate_lines.specs.Found.{AreInOrder, newest_first}
 use Rattle.certificate_lines.specs.Serving.{Settles, AsksForMemory, after_lines, front}
 use Rattle.certificate_lines.proofs.TextLemmas.{seam}
-use Rattle.certificate.proofs.SumLengthLemmas.{line_feed, version_feed}
+use Rattle.certificate_lines.proofs.SumLengthLemmas.{line_feed, version_feed}
 use Rattle.certificate_lines.proofs.SumTextLemmas.{line_on, failed, line_taken, version_taken}
 
 -- Lines in order are read one after another.

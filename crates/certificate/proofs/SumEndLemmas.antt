@@ -8,7 +8,6 @@ use Rattle.certificate_lines.specs.FieldSpelling.{RoutineLine}
 use Rattle.certificate_lines.specs.Lines.{Line, RoutineIs, FactIs, ExitIs, CellIs, SumIs, ChainIs, End, is_end, is_detail}
 use Rattle.certificate_lines.specs.LineOf.{has_form, most_offsets}
 use Rattle.certificate_lines.specs.Order.{heads, follows_newest, place_of_head}
-use Rattle.certificate_lines.specs.Packed.{Packed, said_lines}
 use Rattle.certificate_lines.specs.Found.{newest_first, AreInOrder, IsNext, Follow, IsWhole}
 use Rattle.certificate.specs.Exact.{AreLines}
 use Rattle.certificate_lines.proofs.SumWholeLemmas.{follows}
@@ -55,8 +54,8 @@ end_there (l ∷ ls) = elim (cases_Bool (is_end l)) [
 ]
 
 -- The lines of a certificate and its end are in order.
-pub are_lines : (v : Version) (k : Packed) → IsWhole v k → AreLines (record { version = v; lines = said_lines k ++ End ∷ [] })
+pub are_lines : (v : Version) (k : List Line) → IsWhole v k → AreLines (record { version = v; lines = k ++ End ∷ [] })
 are_lines v k w = record {
-  order = with_end v [] (said_lines k) (follows v [] (said_lines k) w.order).1 (end_next v (newest_first [] (said_lines k)) w.order w.no_end);
-  has_end = end_there (said_lines k);
+  order = with_end v [] k (follows v [] k w.order).1 (end_next v (newest_first [] k) w.order w.no_end);
+  has_end = end_there k;
 }

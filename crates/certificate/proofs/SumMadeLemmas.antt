@@ -20,7 +20,6 @@ use Rattle.certificate_lines.specs.LineOf.{is_relation, has_form}
 use Rattle.certificate_lines.specs.Reading.{Text}
 use Rattle.certificate_lines.specs.Laws.{bytes_of}
 use Rattle.certificate_lines.specs.Found.{IsLine, AreInOrder, Follow, newest_first, unended, IsWhole}
-use Rattle.certificate_lines.specs.Packed.{Packed, said_lines}
 use Rattle.certificate_lines.specs.Spelled.{all_ended}
 use Rattle.certificate_lines.specs.CertificateInCode.{Kept, meaning}
 use Rattle.certificate_lines.specs.Made.{details_of, lines_of_fact, lines_of_exit, before_end, with_lines, MayAdd, AreDetails}
@@ -69,32 +68,32 @@ may_follow : (v : Version) (ls more : List Line) → MayAdd (text_of_kept v ls) 
 may_follow v ls more m = subst (λ (x : List Line). Follow v (unended x) more) (newest_both [] ls (End ∷ [])) m
 
 -- What more lines make of those that are kept.
-pub record Added (v : Version) (k new : Packed) (more : List Line) : Type 0 where
+pub record Added (v : Version) (k new : List Line) (more : List Line) : Type 0 where
   pub whole : IsWhole v new
-  pub is : text_of_kept v (said_lines new) ≡ with_lines more (text_of_kept v (said_lines k))
+  pub is : text_of_kept v new ≡ with_lines more (text_of_kept v k)
 
-pub added : (v : Version) (k new : Packed) (more : List Line) → IsWhole v k → list_any is_end more ≡ false → MayAdd (text_of_kept v (said_lines k)) more →
-    said_lines new ≡ said_lines k ++ more → Added v k new more
+pub added : (v : Version) (k new : List Line) (more : List Line) → IsWhole v k → list_any is_end more ≡ false → MayAdd (text_of_kept v k) more →
+    new ≡ k ++ more → Added v k new more
 added v k new more w none m e =
-    let back : newest_first [] (said_lines new) ≡ newest_first (newest_first [] (said_lines k)) more =
-    ap (λ (x : List Line). newest_first [] x) e ∙ newest_both [] (said_lines k) more in
+    let back : newest_first [] new ≡ newest_first (newest_first [] k) more =
+    ap (λ (x : List Line). newest_first [] x) e ∙ newest_both [] k more in
     record {
-      whole = whole v new (rw back (followed v (newest_first [] (said_lines k)) more w.order (may_follow v (said_lines k) more m)))
-          (rw back (no_end_both (newest_first [] (said_lines k)) more w.no_end none));
-      is = ap (text_of_kept v) e ∙ ap (λ (x : List Line). record { version = v; lines = x }) (sym (before_last more (said_lines k) (not_ended [] (said_lines k) w.no_end).1));
+      whole = whole v new (rw back (followed v (newest_first [] k) more w.order (may_follow v k more m)))
+          (rw back (no_end_both (newest_first [] k) more w.no_end none));
+      is = ap (text_of_kept v) e ∙ ap (λ (x : List Line). record { version = v; lines = x }) (sym (before_last more k (not_ended [] k w.no_end).1));
     }
 
-same_whole : (v : Version) (k new : Packed) → IsWhole v k → said_lines new ≡ said_lines k → IsWhole v new
+same_whole : (v : Version) (k new : List Line) → IsWhole v k → new ≡ k → IsWhole v new
 same_whole v k new w e = whole v new (rw e w.order) (rw e w.no_end)
 
 -- All were added or none.
-pub either_whole : {X E : Type 0} (r : Result X E) (v : Version) (k new : Packed) (more : List Line) → IsWhole v k → list_any is_end more ≡ false →
-    MayAdd (text_of_kept v (said_lines k)) more → OnOk r (said_lines new ≡ said_lines k ++ more) → OnErr r (said_lines new ≡ said_lines k) → IsWhole v new
+pub either_whole : {X E : Type 0} (r : Result X E) (v : Version) (k new : List Line) (more : List Line) → IsWhole v k → list_any is_end more ≡ false →
+    MayAdd (text_of_kept v k) more → OnOk r (new ≡ k ++ more) → OnErr r (new ≡ k) → IsWhole v new
 either_whole (Ok x) v k new more w none m a s = (added v k new more w none m a).whole
 either_whole (Err x) v k new more w none m a s = same_whole v k new w s
 
-pub all_whole : (b : Bool) (v : Version) (k new : Packed) (more : List Line) → IsWhole v k → list_any is_end more ≡ false →
-    MayAdd (text_of_kept v (said_lines k)) more → said_lines new ≡ (if b then said_lines k ++ more else said_lines k) → IsWhole v new
+pub all_whole : (b : Bool) (v : Version) (k new : List Line) (more : List Line) → IsWhole v k → list_any is_end more ≡ false →
+    MayAdd (text_of_kept v k) more → new ≡ (if b then k ++ more else k) → IsWhole v new
 all_whole true v k new more w none m e = (added v k new more w none m e).whole
 all_whole false v k new more w none m e = same_whole v k new w e
 
@@ -158,7 +157,7 @@ order_two : (ls : List Line) → AreInOrder One ls → AreInOrder Two ls
 order_two [] h = tt
 order_two (l ∷ ls) h = (line_two l h.0, record { stands = h.1.stands; order = h.1.order; room = h.1.room }, order_two ls h.2)
 
-pub whole_two : (v : Version) (k : Packed) → is_of_sums v ≡ false → IsWhole v k → IsWhole Two k
-whole_two One k e w = whole Two k (order_two (newest_first [] (said_lines k)) w.order) w.no_end
+pub whole_two : (v : Version) (k : List Line) → is_of_sums v ≡ false → IsWhole v k → IsWhole Two k
+whole_two One k e w = whole Two k (order_two (newest_first [] k) w.order) w.no_end
 whole_two Two k e w = w
 whole_two Three k e w = absurd (true≢false e)

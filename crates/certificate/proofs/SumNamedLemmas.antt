@@ -13,7 +13,6 @@ use Rattle.certificate_lines.specs.Lines.{Line, RoutineIs, FactIs, ExitIs, CellI
 use Rattle.certificate_lines.specs.LineOf.{has_form}
 use Rattle.certificate_lines.specs.Order.{place_of_head}
 use Rattle.certificate_lines.specs.Reading.{facts_at, exits_at, routine_at, is_listed}
-use Rattle.certificate_lines.specs.Packed.{Packed, said_lines}
 use Rattle.certificate_lines.specs.CertificateInCode.{BeginAt}
 use Rattle.certificate_lines.specs.Found.{IsLine, IsWhole, AreRising, from_place, begins_at, least_place}
 use Rattle.certificate_lines.proofs.SumReaderLemmas.{has_place, formed, line_formed, begin_found, NextLine, next_line, facts_end, exits_end}
@@ -172,18 +171,18 @@ no_exit_past v (CellIs c ∷ ls) e o h big = no_exit_past v ls e o h.1 big
 no_exit_past v (SumIs s ∷ ls) e o h big = no_exit_past v ls e o h.1 big
 no_exit_past v (ChainIs c ∷ ls) e o h big = no_exit_past v ls e o h.1 big
 
-module _ (v : Version) (k : Packed) (w : IsWhole v k) where
+module _ (v : Version) (k : List Line) (w : IsWhole v k) where
   abbrev lines : List Line
-  lines = said_lines k
+  lines = k
 
   abbrev Listed : ℕ → Bool
-  Listed e = is_listed (routine_at (said_lines k ++ End ∷ []) e)
+  Listed e = is_listed (routine_at (k ++ End ∷ []) e)
 
   abbrev HasFacts : ℕ → Bool
-  HasFacts a = has_any (facts_at (said_lines k ++ End ∷ []) a)
+  HasFacts a = has_any (facts_at (k ++ End ∷ []) a)
 
   abbrev HasExit : ℕ → ℕ → Bool
-  HasExit e o = has_any (exits_at (said_lines k ++ End ∷ []) e o)
+  HasExit e o = has_any (exits_at (k ++ End ∷ []) e o)
 
   listed_is : (e : ℕ) → e < 4096 → Listed e ≡ place_in lines e
   listed_is e small = ap is_listed (routine_end lines e) ∙ listed_in v lines e (formed v k w) small
@@ -352,7 +351,7 @@ routine_found (l ∷ ls) e = elim (cases_Bool (not (is_detail l) && nat_le e (pl
   | inr f ↦ rw f (routine_found ls e ∙ sym (other_routine l ls e f))
 ]
 
-pub claim_is : (ls : List Line) (i e : ℕ) → drop i ls ≡ from_place e ls → routine_at (ls ++ End ∷ []) e ≡ routine_at (drop i ls) e
+pub claim_is : (ls : List Line) (i e : ℕ) → from_head i ls ≡ from_place e ls → routine_at (ls ++ End ∷ []) e ≡ routine_at (from_head i ls) e
 claim_is ls i e at = routine_end ls e ∙ sym (ap (λ (x : List Line). routine_at x e) at ∙ routine_found ls e)
 
 -- The line at the place of a routine is its own.
@@ -368,13 +367,13 @@ is_routine_at v (ChainIs d) rest e form small at = absurd (false≢true at)
 
 pub record RoutineHere (ls : List Line) (i e : ℕ) : Type 0 where
   pub line : RoutineLine
-  pub there : drop i ls ≡ RoutineIs line ∷ drop (i + 1) ls
+  pub there : from_head i ls ≡ RoutineIs line ∷ drop (i + 1) ls
   pub found : routine_at (ls ++ End ∷ []) e ≡ Some line
 
-pub routine_here : (v : Version) (k : Packed) (i e : ℕ) → IsWhole v k → e < 4096 → drop i (said_lines k) ≡ from_place e (said_lines k) → begins_at e (drop i (said_lines k)) ≡ true →
-    RoutineHere (said_lines k) i e
+pub routine_here : (v : Version) (k : List Line) (i e : ℕ) → IsWhole v k → e < 4096 → from_head i k ≡ from_place e k → begins_at e (from_head i k) ≡ true →
+    RoutineHere k i e
 routine_here v k i e w small from is =
-    let ls : List Line = said_lines k in
+    let ls : List Line = k in
     let n : NextLine ls i = next_line ls i e is in
     let form = line_formed v k i n.line (drop (i + 1) ls) w n.there in
     let r = is_routine_at v n.line (drop (i + 1) ls) e form.0 small (rw n.there at is) in
@@ -388,10 +387,10 @@ other_place : (xs : List Line) (e : ℕ) → e < 4096 → BeginAt e xs → begin
 other_place [] e small b f q = omega (arith, q, small)
 other_place (l ∷ xs) e small b f q = let d : is_detail l ≡ false = b.0 in true≢false (sym (eq-eqb (place_of_head l) e q) ∙ (rw d at f))
 
-pub not_listed : (v : Version) (k : Packed) (i e : ℕ) → IsWhole v k → e < 4096 → drop i (said_lines k) ≡ from_place e (said_lines k) → begins_at e (drop i (said_lines k)) ≡ false →
-    is_listed (routine_at (said_lines k ++ End ∷ []) e) ≡ false
+pub not_listed : (v : Version) (k : List Line) (i e : ℕ) → IsWhole v k → e < 4096 → from_head i k ≡ from_place e k → begins_at e (from_head i k) ≡ false →
+    is_listed (routine_at (k ++ End ∷ []) e) ≡ false
 not_listed v k i e w small from is =
-    let ls : List Line = said_lines k in
+    let ls : List Line = k in
     let next = next_known ls 0 e (omega (arith, small)) w.rising in
     listed_is v k w e small ∙ next.before e (omega arith) (less e (least_place (from_place e ls)) next.reached
     (other_place (from_place e ls) e small (begin_found e ls) (rw from at is)))

@@ -15,15 +15,14 @@ use Rattle.certificate_lines.specs.Spelling.{version_text, line_text}
 use Rattle.certificate_lines.specs.LineOf.{line_of}
 use Rattle.certificate_lines.specs.Order.{may_stand, oldest}
 use Rattle.certificate_lines.specs.Progress.{Tracks, Continues}
-use Rattle.certificate_lines.specs.Packed.{Packed, said_lines}
 use Rattle.certificate_lines.specs.Found.{AreInOrder, Keeps, IsWhole, unended}
 use Rattle.certificate_lines.specs.Reading.{Text, Progress as ReadingProgress, Start, After, Failed, after_line, at_last, answer_from, reading}
 use Rattle.certificate_lines.specs.Serving.{Settles, AsksForMemory, front}
 use Rattle.certificate_lines.specs.CertificateInCode.{Kept as KeptCertificate}
 use Rattle.certificate_lines.specs.LineFeeds.{NoFeed}
 use Rattle.certificate.specs.Parser.{Reached, HasRead, WasRead, Parts, Seen, Refuses, IsParsed}
-use Rattle.certificate.proofs.LengthLemmas.{no_feed_both}
-use Rattle.certificate.proofs.SumLengthLemmas.{line_short}
+use Rattle.certificate_lines.proofs.LengthLemmas.{no_feed_both}
+use Rattle.certificate_lines.proofs.SumLengthLemmas.{line_short}
 use Rattle.certificate_lines.proofs.SumTextLemmas.{no_line_of, bad_line, no_version, end_on, few_read}
 use Rattle.certificate.proofs.SumAnswerLemmas as answer
 use Rattle.certificate.proofs.SumAnswerLemmas.{front_on, end_read, oldest_newest, fault_of_bytes, asks}
@@ -44,10 +43,10 @@ pub was_read : {A : Type 0} (p : Parser A) (bytes : List ℕ) → Seen p bytes �
 was_read p bytes s = record { text = s.text; read = s.parts.read }
 
 -- The line so far, where it is not too long.
-line_split : (kept : Packed) (text line bytes : List ℕ) (progress : Option Progress) → (h : Parts text kept progress line false bytes) → bytes ≡ text ++ line
+line_split : (kept : List Line) (text line bytes : List ℕ) (progress : Option Progress) → (h : Parts text kept progress line false bytes) → bytes ≡ text ++ line
 line_split kept text line bytes progress h = rw (h.same refl) h.split
 
-line_feed : (kept : Packed) (text line bytes : List ℕ) (progress : Option Progress) → (h : Parts text kept progress line false bytes) → NoFeed line
+line_feed : (kept : List Line) (text line bytes : List ℕ) (progress : Option Progress) → (h : Parts text kept progress line false bytes) → NoFeed line
 line_feed kept text line bytes progress h = rw (h.same refl) h.feed
 
 -- Lines after which one may stand have no end.
@@ -78,7 +77,7 @@ ended_last v (End ∷ ls) h e = record { is = refl; order = h.2; no_end = not_en
 ended_last v (l ∷ ls) h e = absurd (true≢false (sym e ∙ not_ended (list_any is_end ls) _ h.1.stands))
 
 -- A further line.
-pub next_kept : (kept new : Packed) (text line bytes : List ℕ) (p q : Progress) (l : Line) → Parts text kept (Some p) line false bytes → q.version ≡ p.version →
+pub next_kept : (kept new : List Line) (text line bytes : List ℕ) (p q : Progress) (l : Line) → Parts text kept (Some p) line false bytes → q.version ≡ p.version →
     ((before : List Line) → Tracks p before → Continues p.version before line l × Tracks q (l ∷ before)) →
     ((before : List Line) → Keeps kept before → Keeps new (unended (l ∷ before))) →
     Parts (text ++ line ++ 10 ∷ []) new (Some q) [] false (bytes ++ 10 ∷ [])
@@ -105,13 +104,13 @@ next_kept kept new text line bytes p q l h w t more = record {
         }
 
 -- A first line that is none.
-none_first : (kept : Packed) (text tail bytes : List ℕ) → HasRead None text kept → bytes ≡ text ++ tail → NoFeed tail → length bytes < most_bytes →
+none_first : (kept : List Line) (text tail bytes : List ℕ) → HasRead None text kept → bytes ≡ text ++ tail → NoFeed tail → length bytes < most_bytes →
     ((v : Version) → tail ≢ version_text v) → Refuses (bytes ++ 10 ∷ []) faults.Version
 none_first kept text tail bytes h split feed small none =
     let e : bytes ≡ tail = split ∙ ap (λ (x : List ℕ). x ++ tail) h.0 in
     rw e (answer.first_refused tail faults.Version feed (rw e at small) (no_version tail none))
 
-pub first_refused : (kept : Packed) (text line bytes : List ℕ) → Parts text kept None line false bytes → length bytes < most_bytes →
+pub first_refused : (kept : List Line) (text line bytes : List ℕ) → Parts text kept None line false bytes → length bytes < most_bytes →
     ((v : Version) → line ≢ version_text v) → Refuses (bytes ++ 10 ∷ []) faults.Version
 first_refused kept text line bytes h small none =
     none_first kept text line bytes h.read (line_split kept text line bytes None h) (line_feed kept text line bytes None h) small none
@@ -121,7 +120,7 @@ version_short One = omega arith
 version_short Two = omega arith
 version_short Three = omega arith
 
-pub long_first : (kept : Packed) (text line bytes : List ℕ) (o : Option Progress) (long : Bool) → o ≡ None → long ≡ true → Parts text kept o line long bytes →
+pub long_first : (kept : List Line) (text line bytes : List ℕ) (o : Option Progress) (long : Bool) → o ≡ None → long ≡ true → Parts text kept o line long bytes →
     length bytes < most_bytes → Refuses (bytes ++ 10 ∷ []) faults.Version
 long_first kept text line bytes o long is e h small =
     none_first kept text h.tail bytes (let z : HasRead None text kept = rw is at h.read in z) h.split h.feed small (λ v same.
@@ -129,7 +128,7 @@ long_first kept text line bytes o long is e h small =
     let b : 49152 < length h.tail = h.long e in
     let d : length (version_text v) ≤ 49152 = version_short v in absurd (omega arith))
 
-module _ (kept : Packed) (text bytes : List ℕ) (old : Option Progress) (p : Progress) (is : old ≡ Some p) (small : length bytes < most_bytes) where
+module _ (kept : List Line) (text bytes : List ℕ) (old : Option Progress) (p : Progress) (is : old ≡ Some p) (small : length bytes < most_bytes) where
   there : HasRead old text kept → Reached p text kept
   there h = let z : HasRead (Some p) text kept = rw is at h in z
 
@@ -153,7 +152,7 @@ module _ (kept : Packed) (text bytes : List ℕ) (old : Option Progress) (p : Pr
       bad_line p.version before h.tail (long_bad p.version h.tail (h.long e)) ∙ ap (λ k. Failed (faults.BadLine k)) (sym (number ∙ t.number)))
 
 -- A line more, for which memory was wanting.
-pub wanting : (kept : Packed) (text line bytes : List ℕ) (p q : Progress) (l : Line) → Parts text kept (Some p) line false bytes → length bytes < most_bytes →
+pub wanting : (kept : List Line) (text line bytes : List ℕ) (p q : Progress) (l : Line) → Parts text kept (Some p) line false bytes → length bytes < most_bytes →
     ((before : List Line) → Tracks p before → Continues p.version before line l × Tracks q (l ∷ before)) → is_end l ≡ false →
     AsksForMemory (bytes ++ 10 ∷ [])
 wanting kept text line bytes p q l h small t grows =
@@ -167,11 +166,11 @@ wanting kept text line bytes p q l h small t grows =
     (omega (arith, e, length-append bytes (10 ∷ []), small))
 
 -- Where reading stands after the whole lines, and what the bytes so far and more without a line feed are answered with.
-unfoldable pub place_at : (kept : Packed) (text : List ℕ) (o : Option Progress) → HasRead o text kept → ReadingProgress
+unfoldable pub place_at : (kept : List Line) (text : List ℕ) (o : Option Progress) → HasRead o text kept → ReadingProgress
 place_at kept text None h = Start
 place_at kept text (Some p) h = After p.version h.before
 
-pub seen_answer : (kept : Packed) (text line bytes : List ℕ) (o : Option Progress) (long : Bool) (h : Parts text kept o line long bytes) (b : Bool)
+pub seen_answer : (kept : List Line) (text line bytes : List ℕ) (o : Option Progress) (long : Bool) (h : Parts text kept o line long bytes) (b : Bool)
     (more : List ℕ) → NoFeed more → answer_from b Start (pieces (bytes ++ more)) ≡ at_last b (place_at kept text o h.read) (h.tail ++ more)
 unfolding place_at
 seen_answer kept text line bytes None long h b more feed =
@@ -184,7 +183,7 @@ seen_answer kept text line bytes (Some p) long h b more feed =
     (front_on b p.version h.read.before (h.tail ++ more) h.read.order ∙
     end_on b (After p.version h.read.before) (h.tail ++ more) (no_feed_both h.tail more h.feed feed))
 
-pub seen_read : (kept : Packed) (text line bytes : List ℕ) (o : Option Progress) (long : Bool) (h : Parts text kept o line long bytes) →
+pub seen_read : (kept : List Line) (text line bytes : List ℕ) (o : Option Progress) (long : Bool) (h : Parts text kept o line long bytes) →
     length bytes ≤ most_bytes → reading bytes ≡ at_last false (place_at kept text o h.read) h.tail
 seen_read kept text line bytes o long h few =
     few_read bytes few ∙ (ap (λ (x : List ℕ). answer_from false Start (pieces x)) (sym (append-nil bytes)) ∙
@@ -201,7 +200,7 @@ few_more n m None le h = tt
 few_more n m (Some g) le h = omega arith
 
 -- Bytes more of which none is a line feed.
-pub added : (kept : Packed) (text line new_line bytes piece : List ℕ) (progress : Option Progress) (long : Bool) → Parts text kept progress line long bytes →
+pub added : (kept : List Line) (text line new_line bytes piece : List ℕ) (progress : Option Progress) (long : Bool) → Parts text kept progress line long bytes →
     NoFeed piece → new_line ≡ line ++ piece → Parts text kept progress new_line long (bytes ++ piece)
 added kept text line new_line bytes piece progress long h n e = record {
   tail = h.tail ++ piece;
@@ -213,12 +212,12 @@ added kept text line new_line bytes piece progress long h n e = record {
 }
 
 -- A line of which nothing was taken before.
-pub whole_line : (kept : Packed) (text line bytes piece : List ℕ) (progress : Option Progress) (long : Bool) → Parts text kept progress line long bytes →
+pub whole_line : (kept : List Line) (text line bytes piece : List ℕ) (progress : Option Progress) (long : Bool) → Parts text kept progress line long bytes →
     line ≡ [] → long ≡ false → NoFeed piece → Parts text kept progress piece false (bytes ++ piece)
 whole_line kept text line bytes piece progress long h e f n = rw f at (added kept text line piece bytes piece progress long h n (rw e refl))
 
 -- More than are kept.
-pub passed : (kept : Packed) (text line new_line bytes piece : List ℕ) (progress : Option Progress) (long : Bool) → Parts text kept progress line long bytes →
+pub passed : (kept : List Line) (text line new_line bytes piece : List ℕ) (progress : Option Progress) (long : Bool) → Parts text kept progress line long bytes →
     NoFeed piece → (length line + length piece ≤ 49152 → ⊥) → Parts text kept progress new_line true (bytes ++ piece)
 passed kept text line new_line bytes piece progress long h n fits = record {
   tail = h.tail ++ piece;
@@ -240,7 +239,7 @@ passed kept text line new_line bytes piece progress long h n fits = record {
     longer false q = let z : length line ≡ length h.tail = ap length (h.same q) in omega (arith, length-append h.tail piece)
 
 -- The bytes have no whole line.
-pub no_lines : (kept : Packed) (text line bytes : List ℕ) (o : Option Progress) (long : Bool) → o ≡ None → Parts text kept o line long bytes → length bytes ≤ most_bytes →
+pub no_lines : (kept : List Line) (text line bytes : List ℕ) (o : Option Progress) (long : Bool) → o ≡ None → Parts text kept o line long bytes → length bytes ≤ most_bytes →
     reading bytes ≡ Err faults.Version
 unfolding place_at
 no_lines kept text line bytes o long is h few =
@@ -256,7 +255,7 @@ cut_at v before tail lacks = go (list_any is_end before) refl tail refl
     go true e [] f = absurd (lacks e f)
     go true e (x ∷ t) f = rw (e, ne_eqb (length (x ∷ t)) 0 (λ z. omega arith)) refl
 
-pub cut : (kept : Packed) (text line bytes : List ℕ) (long : Bool) (o : Option Progress) (p : Progress) (n : ℕ) → o ≡ Some p → Parts text kept o line long bytes →
+pub cut : (kept : List Line) (text line bytes : List ℕ) (long : Bool) (o : Option Progress) (p : Progress) (n : ℕ) → o ≡ Some p → Parts text kept o line long bytes →
     length bytes ≤ most_bytes → n ≡ p.number →
     ((before : List Line) → Tracks p before → list_any is_end before ≡ true → long ≡ false → line ≡ [] → ⊥) → reading bytes ≡ Err (faults.BadLine n)
 unfolding place_at
@@ -274,14 +273,14 @@ pub not_empty : (line : List ℕ) → false ≡ (length line == 0) → line ≡ 
 not_empty line e f = true≢false (sym (eq-eqb (length line) 0 (ap length f)) ∙ sym e)
 
 -- The certificate that is kept.
-pub whole_kept : (kept : Packed) (text : List ℕ) (o : Option Progress) (p : Progress) → o ≡ Some p → HasRead o text kept → p.ended ≡ true →
+pub whole_kept : (kept : List Line) (text : List ℕ) (o : Option Progress) (p : Progress) → o ≡ Some p → HasRead o text kept → p.ended ≡ true →
     IsWhole p.version kept
 whole_kept kept text o p is h done =
     let g : Reached p text kept = let z : HasRead (Some p) text kept = rw is at h in z in
     let e : Ended p.version g.before = ended_last p.version g.before g.order (sym g.tracks.others.ended ∙ done) in
     whole p.version kept (rw g.keeps e.order) (rw g.keeps e.no_end)
 
-pub whole_parsed : (kept : Packed) (text line bytes : List ℕ) (o : Option Progress) (p : Progress) (long : Bool) → o ≡ Some p → p.ended ≡ true →
+pub whole_parsed : (kept : List Line) (text line bytes : List ℕ) (o : Option Progress) (p : Progress) (long : Bool) → o ≡ Some p → p.ended ≡ true →
     IsWhole p.version kept → Parts text kept o line long bytes → long ≡ false → line ≡ [] → length bytes ≤ most_bytes →
     IsParsed bytes (record { version = p.version; lines = kept })
 unfolding place_at
@@ -290,8 +289,8 @@ whole_parsed kept text line bytes o p long is done w h short none few =
     let g : Reached p text kept = k.read in
     let has_end : list_any is_end g.before ≡ true = sym g.tracks.others.ended ∙ done in
     let e : Ended p.version g.before = ended_last p.version g.before g.order has_end in
-    let lines : oldest g.before ≡ said_lines kept ++ End ∷ [] =
-    ap oldest e.is ∙ ap (λ (x : List Line). x ++ End ∷ []) (ap oldest (sym g.keeps) ∙ oldest_newest [] (said_lines kept)) in
+    let lines : oldest g.before ≡ kept ++ End ∷ [] =
+    ap oldest e.is ∙ ap (λ (x : List Line). x ++ End ∷ []) (ap oldest (sym g.keeps) ∙ oldest_newest [] kept) in
     seen_read kept text line bytes (Some p) long k few ∙
     (ap (at_last false (After p.version g.before)) (sym (k.same short) ∙ none) ∙
     (end_read p.version g.before has_end ∙

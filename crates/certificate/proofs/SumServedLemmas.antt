@@ -16,14 +16,13 @@ use Rattle.certificate_lines.specs.FieldSpelling.{ended}
 use Rattle.certificate_lines.specs.Pieces.{most_bytes}
 use Rattle.certificate_lines.specs.ReadFaults.{is_read_fault, failed_to_read}
 use Rattle.certificate_lines.specs.Lines.{is_end}
-use Rattle.certificate_lines.specs.Packed.{Packed}
 use Rattle.certificate_lines.specs.Order.{oldest}
 use Rattle.certificate_lines.specs.Reading.{Text, at_last, reading}
 use Rattle.certificate_lines.specs.CertificateInCode.{Kept}
 use Rattle.certificate_lines.specs.LineFeeds.{NoFeed}
 use Rattle.certificate.specs.Parser.{HasRead, CameTo, Told, IsAnswered, Serves, Parts, Seen, IsSmall, Refuses, IsParsed}
 use Rattle.certificate_lines.specs.Serving.{Settles, IsUnanswered, AsksForMemory}
-use Rattle.certificate.proofs.LengthLemmas.{feed_taken}
+use Rattle.certificate_lines.proofs.LengthLemmas.{feed_taken}
 use Rattle.certificate.proofs.SumAnswerLemmas.{fault_of_bytes}
 use Rattle.certificate.proofs.SumParserLemmas.{place_at, seen_answer, seen_read}
 
@@ -56,7 +55,7 @@ refused_on xs ys zs faults.NoMemory e asks = asks_on xs ys zs e asks
 refused_on xs ys zs fault e settled = settled_on xs ys zs fault e settled
 
 -- The last answer is that the text is too long where more bytes come than are read, and only then.
-last_long : (kept : Packed) (text : List ℕ) (o : Option Progress) (h : HasRead o text kept) (rest : List ℕ) →
+last_long : (kept : List Line) (text : List ℕ) (o : Option Progress) (h : HasRead o text kept) (rest : List ℕ) →
     at_last true (place_at kept text o h) rest ≡ Err faults.TooMany
 unfolding place_at
 last_long kept text None h rest = refl
@@ -65,7 +64,7 @@ last_long kept text (Some p) h rest = refl
 other_faults : (f g : CertificateFault) → (f ≡ g → ⊥) → (let r : Result Text CertificateFault = Err f in r) ≡ Err g → ⊥
 other_faults f g other e = other (cc)
 
-last_short : (kept : Packed) (text : List ℕ) (o : Option Progress) (h : HasRead o text kept) (rest : List ℕ) →
+last_short : (kept : List Line) (text : List ℕ) (o : Option Progress) (h : HasRead o text kept) (rest : List ℕ) →
     at_last false (place_at kept text o h) rest ≡ Err faults.TooMany → ⊥
 unfolding place_at
 last_short kept text None h rest e = other_faults faults.Version faults.TooMany (λ q. absurd (cc)) e
@@ -75,7 +74,7 @@ last_short kept text (Some p) h rest e = elim (cases_Bool (list_any is_end h.bef
 ]
 
 -- What may follow the bytes that the parser took.
-module _ (kept : Packed) (text line bytes : List ℕ) (long : Bool) where
+module _ (kept : List Line) (text line bytes : List ℕ) (long : Bool) where
   -- More bytes come than are read, and none of those that are is a line feed.
   pub full : (o : Option Progress) → Parts text kept o line long bytes → (k : ℕ) (piece : List ℕ) → length bytes + k ≡ most_bytes →
       k < length piece → NoFeed (take k piece) → Refuses (bytes ++ piece) faults.TooMany

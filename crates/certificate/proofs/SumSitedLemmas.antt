@@ -20,7 +20,7 @@ use Rattle.certificate_lines.specs.Laws.{MqFits, RegistersFit, LineFits}
 use Rattle.certificate_lines.specs.Certificate.{Certificate}
 use Rattle.certificate_lines.specs.Reading.{routine_at, is_listed, sites_in}
 use Rattle.certificate_lines.specs.Found.{IsLine, AreInOrder, newest_first, IsWhole}
-use Rattle.certificate_lines.specs.Packed.{Packed, said_lines, said_at, sited_line, IsNumbered}
+use Rattle.certificate_lines.specs.Said.{sited_line, IsNumbered}
 use Rattle.certificate_lines.specs.Made.{sites_by, sited_by}
 use Rattle.certificate_lines.specs.declared.runs.Run.{Run}
 use Rattle.domain.specs.declared.chains.Step.{Step}
@@ -297,12 +297,12 @@ module _ (sites : Line → Words) where
   newest_map before [] = refl
   newest_map before (l ∷ ls) = newest_map (l ∷ before) ls
 
-  pub whole_three : (v : Version) (k new : Packed) → is_of_sums v ≡ false → ((l : Line) → EndsBefore 4096 (sites l)) → IsWhole v k →
-      said_lines new ≡ map sited (said_lines k) → IsWhole Three new
+  pub whole_three : (v : Version) (k new : List Line) → is_of_sums v ≡ false → ((l : Line) → EndsBefore 4096 (sites l)) → IsWhole v k →
+      new ≡ map sited k → IsWhole Three new
   whole_three v k new e ends w same =
-      let back : newest_first [] (said_lines new) ≡ map sited (newest_first [] (said_lines k)) = ap (λ (x : List Line). newest_first [] x) same ∙ newest_map [] (said_lines k) in
-      whole Three new (rw back (order_three v e ends (newest_first [] (said_lines k)) w.order))
-      (rw back (any_same is_end (newest_first [] (said_lines k)) same_end ∙ w.no_end))
+      let back : newest_first [] new ≡ map sited (newest_first [] k) = ap (λ (x : List Line). newest_first [] x) same ∙ newest_map [] k in
+      whole Three new (rw back (order_three v e ends (newest_first [] k) w.order))
+      (rw back (any_same is_end (newest_first [] k) same_end ∙ w.no_end))
 
 -- An exit's offset has at most two digits.
 pub numbered : (v : Version) (runs : List Run) (steps : List Step) (l : PackedLine) → IsLine v (said_at runs steps l) → IsNumbered l
@@ -326,10 +326,10 @@ sited_all f kept all ls n past h = sym (append-nil kept) ∙ (ap (λ (x : List L
 
 -- A certificate with its sites.
 pub claimed_sites : (k : Kept) → IsWhole k.version k.lines → (e : ℕ) → EndsBefore 4096 ((claims k).sites e)
-claimed_sites k w e = subst (λ (r : Option RoutineLine). EndsBefore 4096 (sites_in r)) (sym (routine_end (said_lines k.lines) e))
-    (sites_end k.version (said_lines k.lines) e (formed k.version k.lines w))
+claimed_sites k w e = subst (λ (r : Option RoutineLine). EndsBefore 4096 (sites_in r)) (sym (routine_end k.lines e))
+    (sites_end k.version k.lines e (formed k.version k.lines w))
 
-pub whole_sited : (k : Kept) (d : Declaration) (new : Packed) → IsWhole k.version k.lines → is_of_sums k.version ≡ false →
-    said_lines new ≡ map (sited_by d (claims k)) (said_lines k.lines) → IsWhole Three new
+pub whole_sited : (k : Kept) (d : Declaration) (new : List Line) → IsWhole k.version k.lines → is_of_sums k.version ≡ false →
+    new ≡ map (sited_by d (claims k)) k.lines → IsWhole Three new
 whole_sited k d new w e same =
     whole_three (sites_by d (claims k)) k.version k.lines new e (λ l. by_end d (claims k) l (claimed_sites k w)) w same

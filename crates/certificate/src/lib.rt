@@ -15,8 +15,7 @@ ghost use Rattle.certificate_lines.specs.Made.{SitesAreAdded};
 ghost use Rattle.certificate_lines.specs.Serving.{AsksForMemory};
 ghost use Rattle.certificate_lines.specs.CertificateInCode.{meaning, claims, facts_from, exits_from, IsBeforeFacts, IsBeforeExits, HasShape, Follows};
 ghost use Rattle.certificate.specs.Exact.{AreLines, SpellingLaw, ReadingLaw};
-ghost use Rattle.certificate_lines.specs.declared.Version.TheVariants.{Three};
-ghost use Rattle.certificate_lines.specs.Spelled.{all_ended};
+ghost use Rattle.certificate_lines.specs.Stored.{lines_in, IsText};
 ghost use Rattle.certificate_lines.specs.Written.{facts_lines, fact_text_at};
 
 use crate::parser::Parser;
@@ -120,7 +119,8 @@ impl<A: Allocator> Certificate<A> {
     /// The text in version 3 of the fact with a number among those at an address, the first of which has number 0; none where
     /// there are fewer.
     fn fact_text(&self, at: Word, number: usize) -> &[u8]
-        ensures { result.now ≡ all_ended Three (get_or (facts_lines self.now.lines at) number []) }
+        ensures text { IsText result.now }
+        ensures lines { lines_in result.now ≡ get_or (facts_lines self.now.lines at) number [] }
     {
         let place = FIRST_FACT + at.index();
         let mut head = self.kept.from(0, place);

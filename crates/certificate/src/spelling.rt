@@ -1,15 +1,14 @@
 //! The text of a certificate as it is written.
 
-ghost use Rattle.std.specs.Prelude.{◌≡◌, List, ◌++◌, codes, OnOk, OnErr, is_err, true, false};
+ghost use Rattle.std.specs.Prelude.{◌≡◌, ◌++◌, codes, OnOk, OnErr, is_err, true, false};
 ghost use Rattle.std.specs.Io.KnownBytes.{Appends};
 ghost use Rattle.streams.specs.Bytes.{AppendsFront};
 ghost use Rattle.certificate_lines.specs.FieldSpelling.{ended};
 ghost use Rattle.certificate_lines.specs.RisingLists.{Each};
-ghost use Rattle.certificate_lines.specs.declared.Version.TheVariants.{Three};
-ghost use Rattle.certificate_lines.specs.Lines.{Line};
 ghost use Rattle.certificate_lines.specs.Spelling.{version_text};
 ghost use Rattle.certificate_lines.specs.Found.{IsLine};
 ghost use Rattle.certificate_lines.specs.Spelled.{all_ended};
+ghost use Rattle.certificate_lines.specs.Stored.{lines_in, IsText};
 
 use certificate_lines::{Fields, LineRoom, Version, next_line};
 use streams::{ByteSink, Failed, put};
@@ -28,11 +27,10 @@ fn first_line(version: Version) -> &'static [u8]
 /// Writes lines, of which this is the text in version 3.
 pub fn put_lines<W: ByteSink>(sink: &mut W, version: Version, text: &[u8]) -> Result<(), Failed>
     requires unmarked { W.mark sink.old ≡ false }
-    requires form { (ls : List Line) × (text.now ≡ all_ended Three ls) × Each (IsLine Three) ls × Each (IsLine version) ls }
-    ensures whole { (ls : List Line) → Each (IsLine Three) ls → text.now ≡ all_ended Three ls →
-        OnOk result (Appends (W.taken sink.old) (W.taken sink.new) (all_ended version ls)) }
-    ensures front { (ls : List Line) → Each (IsLine Three) ls → text.now ≡ all_ended Three ls →
-        OnErr result (AppendsFront (W.taken sink.old) (W.taken sink.new) (all_ended version ls)) }
+    requires text { IsText text.now }
+    requires form { Each (IsLine version) (lines_in text.now) }
+    ensures whole { OnOk result (Appends (W.taken sink.old) (W.taken sink.new) (all_ended version (lines_in text.now))) }
+    ensures front { OnErr result (AppendsFront (W.taken sink.old) (W.taken sink.new) (all_ended version (lines_in text.now))) }
     ensures marks { W.mark sink.new ≡ is_err result }
 {
     let mut room = LineRoom::new();
@@ -50,13 +48,12 @@ pub fn put_lines<W: ByteSink>(sink: &mut W, version: Version, text: &[u8]) -> Re
 /// Writes a certificate's text: its first line, the lines of which this is the text in version 3, and the end.
 pub fn put_text<W: ByteSink>(sink: &mut W, version: Version, text: &[u8]) -> Result<(), Failed>
     requires unmarked { W.mark sink.old ≡ false }
-    requires form { (ls : List Line) × (text.now ≡ all_ended Three ls) × Each (IsLine Three) ls × Each (IsLine version) ls }
-    ensures whole { (ls : List Line) → Each (IsLine Three) ls → text.now ≡ all_ended Three ls →
-        OnOk result (Appends (W.taken sink.old) (W.taken sink.new)
-        (ended (version_text version) ++ all_ended version ls ++ ended (codes "end"))) }
-    ensures front { (ls : List Line) → Each (IsLine Three) ls → text.now ≡ all_ended Three ls →
-        OnErr result (AppendsFront (W.taken sink.old) (W.taken sink.new)
-        (ended (version_text version) ++ all_ended version ls ++ ended (codes "end"))) }
+    requires text { IsText text.now }
+    requires form { Each (IsLine version) (lines_in text.now) }
+    ensures whole { OnOk result (Appends (W.taken sink.old) (W.taken sink.new)
+        (ended (version_text version) ++ all_ended version (lines_in text.now) ++ ended (codes "end"))) }
+    ensures front { OnErr result (AppendsFront (W.taken sink.old) (W.taken sink.new)
+        (ended (version_text version) ++ all_ended version (lines_in text.now) ++ ended (codes "end"))) }
     ensures marks { W.mark sink.new ≡ is_err result }
 {
     put(sink, first_line(version))?;

@@ -10,11 +10,13 @@ pub mod SumTextLemmas
 pub mod PackedLemmas
 pub mod MakerLemmas
 pub mod PutLemmas
-pub mod AddingLemmas
-pub mod SumPackedLemmas
+pub mod SpelledLemmas
+pub mod LengthLemmas
+pub mod SumLengthLemmas
+pub mod SumSpelledLemmas
 pub mod SumFoundLemmas
+pub mod StoredLemmas
 pub mod SumAddingLemmas
-pub mod OffsetReadLemmas
 pub mod SumFieldLemmas
 pub mod SumWholeLemmas
 pub mod SumDetailLemmas

@@ -1,8 +1,6 @@
 -- A line with its details among those that are kept, in all versions.
-use Rattle.std.proofs.Common.{◌≡◌, ℕ, ◌+◌, ◌<◌, ◌≤◌, true, false, List, [], ◌∷◌, ◌++◌, refl, ap, ◌∙◌, sym, arith, subst, append_assoc, append-nil, length-append, zero, suc, ◌-◌, Bool, length, get_or, take, drop, map}
-use Rattle.std.proofs.lemmas.Bool.{true≢false, false≢true}
-use Rattle.std.proofs.lemmas.List.{take_all, drop_all, drop_more}
-use Rattle.std.specs.Prelude.{slice_range, if◌then◌else◌}
+use Rattle.std.proofs.Common.{◌≡◌, ℕ, ◌+◌, ◌<◌, ◌≤◌, true, false, List, [], ◌∷◌, ◌++◌, length, refl, ap, ◌∙◌, sym, arith, append_assoc, append-nil, length-append}
+use Rattle.std.proofs.lemmas.Bool.{false≢true}
 use Rattle.domain.specs.Locations.{Location, Ac}
 use Rattle.domain.specs.TrackedCells.{TrackedCell}
 use Rattle.domain.specs.Chains.{Chain}
@@ -11,44 +9,14 @@ use Rattle.domain.specs.CellsInCode.{cell_sets_of}
 use Rattle.domain.specs.FactInCode.{fact_in_code, names_words}
 use Rattle.domain.specs.declared.sum_fact.SumFact.{SumFact}
 use Rattle.wordset.specs.Words.{Words}
+use Rattle.certificate_lines.specs.FieldSpelling.{Registers}
 use Rattle.certificate_lines.specs.RisingLists.{Each}
 use Rattle.certificate_lines.specs.Lines.{Line, RoutineIs, FactIs, ExitIs, CellIs, SumIs, ChainIs, End, is_detail}
 use Rattle.certificate_lines.specs.Order.{details_of_last}
-use Rattle.certificate_lines.specs.Reading.{sets_of, cells_under, relations_under, chains_under, all_offsets}
-use Rattle.certificate_lines.specs.Found.{first_with_details, behind_details, FitUnder, IsSaid}
+use Rattle.certificate_lines.specs.Reading.{sets_of, cells_under, relations_under, chains_under, fact_said, all_offsets}
+use Rattle.certificate_lines.specs.Found.{first_with_details, FitUnder, IsSaid}
 use Rattle.certificate_lines.specs.Adding.{Adds, AddsAll, HasRoomFor, HasRoomUnder}
 use Rattle.certificate_lines.proofs.SumAddingLemmas.{sets_are}
-
--- The place i of a detail, or of the first line after the details.
-abbrev pub EndsAt : List Line → ℕ → ℕ
-EndsAt ls i = i + length (details_of_last (drop i ls))
-
-pub detail_passed : (ls : List Line) (i : ℕ) (l : Line) → drop i ls ≡ l ∷ drop (i + 1) ls → is_detail l ≡ true → EndsAt ls (i + 1) ≡ EndsAt ls i
-detail_passed ls i l at is = rw (at, is) (omega arith)
-
-pub other_line : (ls : List Line) (i : ℕ) (l : Line) → drop i ls ≡ l ∷ drop (i + 1) ls → is_detail l ≡ false → EndsAt ls i ≡ i
-other_line ls i l at is = rw (at, is) (omega arith)
-
-pub no_line : (ls : List Line) (i : ℕ) → length ls ≤ i → EndsAt ls i ≡ i
-no_line ls i h = rw (drop_all i ls h) (omega arith)
-
-details_taken : (ls : List Line) → take (length (details_of_last ls)) ls ≡ details_of_last ls
-details_taken [] = refl
-details_taken (l ∷ ls) = go (is_detail l) (details_taken ls)
-  where
-    go : (d : Bool) → take (length (details_of_last ls)) ls ≡ details_of_last ls →
-        take (length (if d then l ∷ details_of_last ls else [])) (l ∷ ls) ≡ (if d then l ∷ details_of_last ls else [])
-    go true i = ap (λ (x : List Line). l ∷ x) i
-    go false i = refl
-
-pub first_ended : (ls : List Line) (i n : ℕ) → i < length ls → n ≡ EndsAt ls (i + 1) → slice_range ls i n ≡ first_with_details (drop i ls)
-first_ended ls i n h is =
-    let at : drop i ls ≡ get_or ls i End ∷ drop (i + 1) ls = drop_more ls i End h in
-    let k : n - i ≡ suc (length (details_of_last (drop (i + 1) ls))) = omega (arith, is) in
-    rw (at, k) (ap (λ (x : List Line). get_or ls i End ∷ x) (details_taken (drop (i + 1) ls)))
-
-pub none_first : (ls : List Line) (i n : ℕ) → length ls ≤ i → slice_range ls i n ≡ first_with_details (drop i ls)
-none_first ls i n h = rw (drop_all i ls h) (take_all (n - i) [] (omega arith))
 
 -- A fact as far as it tells of the details of a line.
 pub record AddedSofar (old now : SumFact 64 32) (all left : List Line) : Type 0 where
@@ -60,10 +28,9 @@ pub record AddedSofar (old now : SumFact 64 32) (all left : List Line) : Type 0 
     relations = (fact_in_code now).relations;
     chains = (fact_in_code now).chains;
   }
-  pub behind : behind_details left ≡ behind_details all
 
 pub none_sofar : (old : SumFact 64 32) (all : List Line) → AddedSofar old old all all
-none_sofar old all = record { cells_are = refl; relations_are = refl; chains_are = refl; others = refl; behind = refl }
+none_sofar old all = record { cells_are = refl; relations_are = refl; chains_are = refl; others = refl }
 
 -- The fact with these cells, relations and chains.
 abbrev told : Fact → List TrackedCell → List Relation → List Chain → Fact
@@ -82,7 +49,6 @@ one_sofar old now new all rest (CellIs c) h d a =
       chains_are = ap (λ (x : List Chain). x ++ chains_under rest) k ∙ h.chains_are;
       others = a.1 ∙ (ap (λ (f : Fact). record f { set = names_words (f.set Ac) (cell_sets_of new.cells) }) h.others ∙
           told_same (fact_in_code old) (cell_sets_of new.cells) (cell_sets_of new.cells) _ _ _ _ refl (sym r) (sym k));
-      behind = h.behind;
     }
 one_sofar old now new all rest (SumIs s) h d a =
     let r : (fact_in_code new).relations ≡ (fact_in_code now).relations ++ s ∷ [] = ap (λ (f : Fact). f.relations) a.1 in
@@ -93,7 +59,6 @@ one_sofar old now new all rest (SumIs s) h d a =
       chains_are = ap (λ (x : List Chain). x ++ chains_under rest) k ∙ h.chains_are;
       others = a.1 ∙ (ap (λ (f : Fact). record f { relations = (fact_in_code now).relations ++ s ∷ [] }) h.others ∙
           told_same (fact_in_code old) (cell_sets_of now.cells) (cell_sets_of new.cells) _ _ _ _ (sym a.0) (sym r) (sym k));
-      behind = h.behind;
     }
 one_sofar old now new all rest (ChainIs c) h d a =
     let r : (fact_in_code new).relations ≡ (fact_in_code now).relations = ap (λ (f : Fact). f.relations) a.1 in
@@ -104,7 +69,6 @@ one_sofar old now new all rest (ChainIs c) h d a =
       chains_are = ap (λ (x : List Chain). x ++ chains_under rest) k ∙ (append_assoc (fact_in_code now).chains (c ∷ []) (chains_under rest) ∙ h.chains_are);
       others = a.1 ∙ (ap (λ (f : Fact). record f { chains = (fact_in_code now).chains ++ c ∷ [] }) h.others ∙
           told_same (fact_in_code old) (cell_sets_of now.cells) (cell_sets_of new.cells) _ _ _ _ (sym a.0) (sym r) (sym k));
-      behind = h.behind;
     }
 one_sofar old now new all rest (RoutineIs r) h d a = absurd (false≢true d)
 one_sofar old now new all rest (FactIs x s r o) h d a = absurd (false≢true d)
@@ -140,52 +104,69 @@ pub room_left : (old now : SumFact 64 32) (all left rest : List Line) (l : Line)
 room_left old now all left rest l e room h = room_next old now all rest l room (rw e at h)
 
 -- No detail is left.
-pub record AllAdded (old now : SumFact 64 32) (all left : List Line) : Type 0 where
-  pub says : AddsAll old now (cells_under all) (relations_under all) (chains_under all)
-  pub end : left ≡ behind_details all
+pub none_left : (old now : SumFact 64 32) (all : List Line) → AddedSofar old now all [] → AddsAll old now (cells_under all) (relations_under all) (chains_under all)
+none_left old now all h =
+    let cells : cell_sets_of now.cells ≡ cell_sets_of old.cells ++ cells_under all = sym (append-nil (cell_sets_of now.cells)) ∙ h.cells_are in
+    let relations : (fact_in_code now).relations ≡ (fact_in_code old).relations ++ relations_under all = sym (append-nil (fact_in_code now).relations) ∙ h.relations_are in
+    let chains : (fact_in_code now).chains ≡ (fact_in_code old).chains ++ chains_under all = sym (append-nil (fact_in_code now).chains) ∙ h.chains_are in
+    record { cells_are = cells; is = h.others ∙ told_same (fact_in_code old) _ _ _ _ _ _ cells relations chains }
 
-all_told : (old now : SumFact 64 32) (all left : List Line) → AddedSofar old now all left → cells_under left ≡ [] → relations_under left ≡ [] → chains_under left ≡ [] →
-    behind_details left ≡ left → AllAdded old now all left
-all_told old now all left h a b c d =
-    let cells : cell_sets_of now.cells ≡ cell_sets_of old.cells ++ cells_under all =
-    sym (append-nil (cell_sets_of now.cells)) ∙ (ap (λ (x : List TrackedCell). cell_sets_of now.cells ++ x) (sym a) ∙ h.cells_are) in
-    let relations : (fact_in_code now).relations ≡ (fact_in_code old).relations ++ relations_under all =
-    sym (append-nil (fact_in_code now).relations) ∙ (ap (λ (x : List Relation). (fact_in_code now).relations ++ x) (sym b) ∙ h.relations_are) in
-    let chains : (fact_in_code now).chains ≡ (fact_in_code old).chains ++ chains_under all =
-    sym (append-nil (fact_in_code now).chains) ∙ (ap (λ (x : List Chain). (fact_in_code now).chains ++ x) (sym c) ∙ h.chains_are) in
-    record {
-      says = record { cells_are = cells; is = h.others ∙ told_same (fact_in_code old) _ _ _ _ _ _ cells relations chains };
-      end = sym d ∙ h.behind;
-    }
+-- What lines say of a line before them is said by the details at their front.
+front_cells : (ls : List Line) → cells_under (details_of_last ls) ≡ cells_under ls
+front_cells [] = refl
+front_cells (CellIs c ∷ ls) = ap (λ x. c ∷ x) (front_cells ls)
+front_cells (SumIs s ∷ ls) = front_cells ls
+front_cells (ChainIs c ∷ ls) = front_cells ls
+front_cells (RoutineIs r ∷ ls) = refl
+front_cells (FactIs a s r o ∷ ls) = refl
+front_cells (ExitIs e o s r ∷ ls) = refl
+front_cells (End ∷ ls) = refl
 
-pub none_left : (old now : SumFact 64 32) (all : List Line) → AddedSofar old now all [] → AllAdded old now all []
-none_left old now all h = all_told old now all [] h refl refl refl refl
+front_relations : (ls : List Line) → relations_under (details_of_last ls) ≡ relations_under ls
+front_relations [] = refl
+front_relations (CellIs c ∷ ls) = front_relations ls
+front_relations (SumIs s ∷ ls) = ap (λ x. s ∷ x) (front_relations ls)
+front_relations (ChainIs c ∷ ls) = front_relations ls
+front_relations (RoutineIs r ∷ ls) = refl
+front_relations (FactIs a s r o ∷ ls) = refl
+front_relations (ExitIs e o s r ∷ ls) = refl
+front_relations (End ∷ ls) = refl
 
-other_left : (old now : SumFact 64 32) (all rest : List Line) (l : Line) → is_detail l ≡ false → AddedSofar old now all (l ∷ rest) → AllAdded old now all (l ∷ rest)
-other_left old now all rest (RoutineIs r) d h = all_told old now all (RoutineIs r ∷ rest) h refl refl refl refl
-other_left old now all rest (FactIs x s r o) d h = all_told old now all (FactIs x s r o ∷ rest) h refl refl refl refl
-other_left old now all rest (ExitIs e o s r) d h = all_told old now all (ExitIs e o s r ∷ rest) h refl refl refl refl
-other_left old now all rest End d h = all_told old now all (End ∷ rest) h refl refl refl refl
-other_left old now all rest (CellIs c) d h = absurd (true≢false d)
-other_left old now all rest (SumIs s) d h = absurd (true≢false d)
-other_left old now all rest (ChainIs c) d h = absurd (true≢false d)
+front_chains : (ls : List Line) → chains_under (details_of_last ls) ≡ chains_under ls
+front_chains [] = refl
+front_chains (CellIs c ∷ ls) = front_chains ls
+front_chains (SumIs s ∷ ls) = front_chains ls
+front_chains (ChainIs c ∷ ls) = ap (λ x. c ∷ x) (front_chains ls)
+front_chains (RoutineIs r ∷ ls) = refl
+front_chains (FactIs a s r o ∷ ls) = refl
+front_chains (ExitIs e o s r ∷ ls) = refl
+front_chains (End ∷ ls) = refl
 
--- What is not a detail changes nothing.
-unchanged : (now new : SumFact 64 32) (l : Line) → is_detail l ≡ false → Adds now new l → new ≡ now
-unchanged now new (RoutineIs r) d a = a
-unchanged now new (FactIs x s r o) d a = a
-unchanged now new (ExitIs e o s r) d a = a
-unchanged now new End d a = a
-unchanged now new (CellIs c) d a = absurd (true≢false d)
-unchanged now new (SumIs s) d a = absurd (true≢false d)
-unchanged now new (ChainIs c) d a = absurd (true≢false d)
+pub front_fits : (ls : List Line) → FitUnder ls → FitUnder (details_of_last ls)
+front_fits ls h = rw (front_cells ls, front_relations ls, front_chains ls) h
 
-pub other_next : (old now new : SumFact 64 32) (all left rest : List Line) (l : Line) → left ≡ l ∷ rest → is_detail l ≡ false → Adds now new l → AddedSofar old now all left →
-    AllAdded old new all left
-other_next old now new all left rest l e d a h = rw (unchanged now new l d a, e) (other_left old now all rest l d (rw e at h))
+pub front_details : (ls : List Line) → Each (λ l. is_detail l ≡ true) (details_of_last ls)
+front_details [] = tt
+front_details (CellIs c ∷ ls) = (refl, front_details ls)
+front_details (SumIs s ∷ ls) = (refl, front_details ls)
+front_details (ChainIs c ∷ ls) = (refl, front_details ls)
+front_details (RoutineIs r ∷ ls) = tt
+front_details (FactIs a s r o ∷ ls) = tt
+front_details (ExitIs e o s r ∷ ls) = tt
+front_details (End ∷ ls) = tt
 
-pub past_left : (old now : SumFact 64 32) (all lines : List Line) (i : ℕ) → length lines ≤ i → AddedSofar old now all (drop i lines) → AllAdded old now all (drop i lines)
-past_left old now all lines i few h = let e : drop i lines ≡ [] = drop_all i lines few in rw e (none_left old now all (rw e at h))
+front_said : (s : Words) (r : Registers) (o : Words) (ls : List Line) → fact_said s r o (details_of_last ls) ≡ fact_said s r o ls
+front_said s r o ls = rw (front_cells ls, front_relations ls, front_chains ls) refl
+
+pub said_front : (ls : List Line) (f : Fact) → IsSaid (first_with_details ls) f → IsSaid ls f
+said_front [] f h = h
+said_front (FactIs a s r o ∷ ls) f h = h ∙ front_said s r o ls
+said_front (ExitIs e o s r ∷ ls) f h = h ∙ front_said s r all_offsets ls
+said_front (RoutineIs r ∷ ls) f h = h
+said_front (CellIs c ∷ ls) f h = h
+said_front (SumIs s ∷ ls) f h = h
+said_front (ChainIs c ∷ ls) f h = h
+said_front (End ∷ ls) f h = h
 
 -- The fact of a line with its details.
 with_under : (sites : Words) (ac mq link : Words) (offsets : Words) (new : Fact) (begun : Fact) (under : List Line) (cells : List TrackedCell) → cells ≡ cells_under under →
@@ -236,16 +217,3 @@ room_under begun l under is none fit =
     no_chain (SumIs s) is = absurd is
     no_chain (ChainIs c) is = absurd is
     no_chain End is = absurd is
-
-pub past_both : (lines : List Line) (i : ℕ) → length lines ≤ i → drop (length lines) lines ≡ drop i lines
-past_both lines i h = drop_all (length lines) lines (omega arith) ∙ sym (drop_all i lines h)
-
--- What holds of each holds of the one at a place.
-pub each_at : {A B : Type 0} (P : B → Type 0) (f : A → B) (xs : List A) (i : ℕ) (x : A) → i < length xs → x ≡ get_or xs i x → Each P (map f xs) → P (f x)
-each_at P f [] i x h at e = absurd (omega arith)
-each_at P f (y ∷ ys) zero x h at e = let z : x ≡ y = at in subst (λ k. P (f k)) (sym z) e.0
-each_at P f (y ∷ ys) (suc i) x h at e = each_at P f ys i x (omega arith) at e.1
-
--- The lines of all details.
-pub all_pushed : (a b c d e : List Line) (h : Line) (x y z : List Line) → b ≡ a ++ h ∷ [] → c ≡ b ++ x → d ≡ c ++ y → e ≡ d ++ z → e ≡ a ++ (h ∷ (x ++ y ++ z))
-all_pushed a b c d e h x y z p q r s = s ∙ (ap (λ (l : List Line). l ++ z) (r ∙ (ap (λ (l : List Line). l ++ y) (q ∙ (ap (λ (l : List Line). l ++ x) p ∙ append_assoc a (h ∷ []) x)) ∙ append_assoc a (h ∷ x) y)) ∙ append_assoc a (h ∷ (x ++ y)) z)

@@ -1,30 +1,20 @@
 -- Fields that version 3 adds: offsets of two digits, sums and steps.
-use Rattle.std.proofs.Common.{◌≡◌, ◌≢◌, ℕ, suc, ◌+◌, ◌/◌, ◌<◌, ◌≤◌, ◌==◌, ◌&&◌, ◌||◌, Bool, true, false, List, [], ◌∷◌, ◌++◌, length, map, Option, Some, None, refl, ap, ◌∙◌, sym, subst, inl, inr, arith, append_assoc, append-nil, length-append}
+use Rattle.std.proofs.Common.{◌≡◌, ℕ, ◌+◌, ◌/◌, ◌<◌, ◌≤◌, ◌==◌, ◌&&◌, ◌||◌, Bool, true, false, List, [], ◌∷◌, ◌++◌, length, Option, Some, None, refl, ap, ◌∙◌, sym, inl, inr, arith, append_assoc, append-nil, length-append}
 use Rattle.std.specs.Prelude.{IfSome, if◌then◌else◌, codes, flat_map, nat_le, nat_lt}
 use Rattle.std.specs.List.{list_all}
-use Rattle.std.specs.Option.{IsSomeAnd}
-use Rattle.std.proofs.Math.Bool.{or-false}
-use Rattle.std.proofs.lemmas.Bool.{true≢false, false≢true, and_parts, eq-eqb, eqb-true, ltb-true, leb-true, lt-ltb, cases_Bool}
+use Rattle.std.proofs.lemmas.Bool.{true≢false, false≢true, and_parts, eq-eqb, eqb-true, ltb-true, leb-true, cases_Bool}
 use Rattle.std.proofs.lemmas.Bool.Decides.{eqb_tells, nat_tests}
-use Rattle.std.proofs.lemmas.List.Concat.{flat_map-append}
 use Rattle.word12.specs.Words.{octal_text}
-use Rattle.wordset.specs.Words.{minus}
 use Rattle.domain.specs.Locations.{Location, Ac, Cell}
-use Rattle.domain.specs.Shapes.{has_shape, is_triple, is_cell}
-use Rattle.domain.specs.Terms.{Term, Holding, Behind, Summand, Sum, arranged, same_sum, name_of_term}
-use Rattle.domain.specs.InCode.{summand_at}
-use Rattle.std.proofs.lemmas.List.{length-map}
-use Rattle.domain.specs.declared.chains.Step.{Step as KeptStep}
-use Rattle.domain.specs.ChainsInCode.{step_of}
-use Rattle.domain.specs.Chains.{Step, Operates, Ands, Adds}
+use Rattle.domain.specs.Shapes.{has_shape}
+use Rattle.domain.specs.Terms.{Term, Holding, Behind, Summand, Sum}
+use Rattle.domain.specs.Chains.{Step, Operates, Ands, Adds, Chain, longer}
 use Rattle.certificate_lines.specs.FieldSpelling.{name_text}
 use Rattle.certificate_lines.specs.RisingLists.{place_of_name}
 use Rattle.certificate_lines.specs.Spelling.{coefficient_text, further_text, term_text, sum_text, step_text}
 use Rattle.certificate_lines.specs.LineOf.{is_term, is_summand, is_relation, is_step}
-use Rattle.certificate_lines.specs.Fields.{third_text, step_rest}
-use Rattle.certificate_lines.specs.Packed.{third_terms}
-use Rattle.certificate_lines.proofs.DigitLemmas.{at_some}
-use Rattle.certificate_lines.proofs.RunLemmas.{how_long}
+use Rattle.certificate_lines.specs.FieldsLeft.{EndsLine}
+use Rattle.certificate_lines.specs.Fields.{step_rest}
 
 -- Two codes that differ.
 differ : (a b : ℕ) → (a == b) ≡ false → a ≡ b → ⊥
@@ -105,7 +95,7 @@ pub record IsKept (s : Sum) : Type 0 where
 summand_is : (s : Summand) (c : ℕ) (t : Term) → s.coefficient ≡ c → s.term ≡ t → s ≡ record { coefficient = c; term = t }
 summand_is s c t e f = rw (sym e, sym f) refl
 
-name_small : (n : Location) → is_term (Holding n) ≡ true → place_of_name n < 4097
+pub name_small : (n : Location) → is_term (Holding n) ≡ true → place_of_name n < 4097
 name_small Ac h = omega arith
 name_small (Cell a) h = let z : a < 4096 = ltb-true a 4096 h in omega arith
 
@@ -242,7 +232,8 @@ two_read n x a b c d name summand took s rest h e = go k.third k.is (pair_read n
     go None is left small =
         (sum_is n k.first x k.second [] [] p.first_is p.second_is refl ∙ sym is, (let z : codes " in " ++ d ≡ codes " in " ++ rest = sym took ∙ left in cc))
     go (Some u) is left small =
-        absurd (no_third u (codes " in " ++ rest) d small.1 (ap (λ (y : List ℕ). y ++ codes " in " ++ rest) (sym (append-nil (further_text u))) ∙ (sym left ∙ took)))
+        absurd (no_third u (codes " in " ++ rest) d small.1 (sym (append_assoc (further_text u) (codes " in ") rest) ∙
+        (ap (λ (y : List ℕ). y ++ codes " in " ++ rest) (sym (append-nil (further_text u))) ∙ (sym left ∙ took))))
 
 pub three_read : (n : Location) (x y : Summand) (a b c d f g : List ℕ) → ((m : Location) (r : List ℕ) → place_of_name m < 4097 → a ≡ name_text m ++ r → (n ≡ m) × (b ≡ r)) →
     SummandRead x b c → d ≡ c → ((r : List ℕ) → c ≡ codes " in " ++ r → (false ≡ true) × (d ≡ r)) → SummandRead y d f → ((r : List ℕ) → f ≡ codes " in " ++ r → g ≡ r) →
@@ -261,7 +252,8 @@ three_read n x y a b c d f g name summand same lacks further skip s rest h e = g
         ((let z : Sum = record { coefficient = 1; term = Holding n } ∷ x ∷ y ∷ [] in z) ≡ s) × (g ≡ rest)
     go None is left small = absurd (false≢true (lacks rest left).0)
     go (Some u) is left small =
-        let q = further u (codes " in " ++ rest) small.0 small.1 (same ∙ (left ∙ ap (λ (z : List ℕ). z ++ codes " in " ++ rest) (append-nil (further_text u)))) in
+        let q = further u (codes " in " ++ rest) small.0 small.1 (same ∙ (left ∙ (ap (λ (z : List ℕ). z ++ codes " in " ++ rest) (append-nil (further_text u)) ∙
+            append_assoc (further_text u) (codes " in ") rest))) in
         (sum_is n k.first x k.second (y ∷ []) (u ∷ []) p.first_is p.second_is (ap (λ (z : Summand). z ∷ []) q.0) ∙ sym is, skip rest q.1)
 
 -- A step.
@@ -353,6 +345,27 @@ steps_full old now told h full ps tail f few ends e = let w = h ps tail f ends e
     go : (others : List Step) → ps ≡ told ++ others → now ≡ flat_map step_text others ++ tail → (told ≡ ps) × (now ≡ tail)
     go [] is left = (sym (is ∙ append-nil told), left)
     go (q ∷ qs) is left = absurd (let z : length ps ≡ length (told ++ q ∷ qs) = ap length is in omega (arith, z, few, full, length-append told (q ∷ qs)))
+
+-- A chain with the steps that were read.
+pub record Grown (old now : List ℕ) (before chain : Chain) (n : ℕ) : Type 0 where
+  pub count : length chain.steps ≡ n
+  pub others : chain ≡ record before { steps = chain.steps }
+  pub read : StepsRead old now chain.steps
+
+pub chain_begun : (old : List ℕ) (chain : Chain) → chain.steps ≡ [] → Grown old old chain chain 0
+chain_begun old chain none = record { count = ap length none; others = refl; read = rw none (no_steps old) }
+
+pub chain_grown : (old now a new : List ℕ) (before chain after : Chain) (p : Step) (n : ℕ) → Grown old now before chain n → now ≡ 32 ∷ a →
+    ((q : Step) (r : List ℕ) → is_step q ≡ true → a ≡ step_rest q ++ r → (p ≡ q) × (new ≡ r)) → after ≡ longer p chain → Grown old new before after (n + 1)
+chain_grown old now a new before chain after p n g took only is = rw is (record {
+  count = (let c = g.count in omega (arith, c, length-append chain.steps (p ∷ [])));
+  others = ap (longer p) g.others;
+  read = step_more old now a new chain.steps p g.read took only;
+})
+
+pub chain_done : (now : List ℕ) (before chain : Chain) (ps : List Step) (rest : List ℕ) → chain ≡ record before { steps = chain.steps } →
+    (chain.steps ≡ ps) × (now ≡ rest) → (chain ≡ record before { steps = ps }) × (now ≡ rest)
+chain_done now before chain ps rest is p = (is ∙ ap (λ (s : List Step). record before { steps = s }) p.0, p.1)
 
 pub summand_made : (s : Summand) (c : ℕ) (t : Term) → c ≡ s.coefficient → t ≡ s.term → (let x : Summand = record { coefficient = c; term = t } in x) ≡ s
 summand_made s c t e f = rw (e, f) refl

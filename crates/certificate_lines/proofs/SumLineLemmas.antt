@@ -162,7 +162,7 @@ fact_words v a s r o end =
     signs_back (codes "fact") (octal_text a ∷ sited_list v s r (codes "offsets" ∷ offsets_line v o ∷ [])) (literal_signs (codes "fact") refl)
     (octal_signs a, sited_signs v s r _ (literal_signs (codes "offsets") refl, (weaker 43 32 (offsets_line v o) (omega arith) (told_above v o end), tt)))
 
-fact_are : (a b : ℕ) (s t : Words) (r q : Registers) (m n : Words) → a ≡ b → s ≡ t → r ≡ q → m ≡ n → FactIs a s r m ≡ FactIs b t q n
+pub fact_are : (a b : ℕ) (s t : Words) (r q : Registers) (m n : Words) → a ≡ b → s ≡ t → r ≡ q → m ≡ n → FactIs a s r m ≡ FactIs b t q n
 fact_are a b s t r q m n e f g h = rw (e, f, g, h) refl
 
 fact_read : (v : Version) (a : ℕ) (s : Words) (r : Registers) (o : Words) → a < 4096 → SitesFit v s → RegistersFit v r → EndsBefore (most_offsets v) o →
@@ -204,7 +204,7 @@ exit_words v e o s r =
     signs_back (codes "exit") (octal_text e ∷ offset_text v o ∷ sited_list v s r []) (literal_signs (codes "exit") refl)
     (octal_signs e, (offset_signs v o, sited_signs v s r [] tt))
 
-exit_are : (a b m n : ℕ) (s t : Words) (r q : Registers) → a ≡ b → m ≡ n → s ≡ t → r ≡ q → ExitIs a m s r ≡ ExitIs b n t q
+pub exit_are : (a b m n : ℕ) (s t : Words) (r q : Registers) → a ≡ b → m ≡ n → s ≡ t → r ≡ q → ExitIs a m s r ≡ ExitIs b n t q
 exit_are a b m n s t r q e f g h = rw (e, f, g, h) refl
 
 exit_read : (v : Version) (e o : ℕ) (s : Words) (r : Registers) → e < 4096 → o < most_offsets v → SitesFit v s → RegistersFit v r →
@@ -508,7 +508,7 @@ chain_are : (a b m n : ℕ) (s t : Words) (xs ys : List Step) → a ≡ b → m 
 chain_are a b m n s t xs ys e f g h = rw (e, f, g, h) refl
 
 -- Each line.
-said_back : (v : Version) (l : Line) → has_form v l ≡ true → LineFits v l → said_by v (words_in (line_text v l)) ≡ l
+pub said_back : (v : Version) (l : Line) → has_form v l ≡ true → LineFits v l → said_by v (words_in (line_text v l)) ≡ l
 said_back v (RoutineIs r) h e =
     let p = and_parts (nat_lt r.entry 4096) _ h in
     ap (said_by v) (routine_words r) ∙

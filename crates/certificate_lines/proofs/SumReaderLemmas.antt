@@ -14,10 +14,14 @@ use Rattle.certificate_lines.specs.Order.{place_of_head, details_of_last, how_ma
 use Rattle.certificate_lines.specs.Reading.{cells_under, relations_under, chains_under, fact_said, all_offsets, facts_at, exits_at}
 use Rattle.certificate_lines.specs.LineOf.{has_form, most_offsets}
 use Rattle.certificate_lines.specs.declared.Version.TheVariants.{One, Two, Three}
-use Rattle.certificate_lines.specs.Packed.{Packed, said_lines}
 use Rattle.certificate_lines.specs.CertificateInCode.{BeginAt}
-use Rattle.certificate_lines.specs.Found.{IsLine, Follow, IsWhole, AreRising, past, from_place, begins_at, begins, behind_details, FitUnder, IsSaid}
-use Rattle.certificate_lines.proofs.SumPackedLemmas.{drop_both}
+use Rattle.certificate_lines.specs.declared.said.Subject.{Subject}
+use Rattle.certificate_lines.specs.declared.said.Subject.TheVariants as subject
+use Rattle.certificate_lines.specs.declared.said.LineSets.{LineSets}
+use Rattle.certificate_lines.specs.Line.{Spells}
+use Rattle.certificate_lines.specs.Said.{line_said, IsNumbered}
+use Rattle.certificate_lines.specs.Found.{IsLine, Follow, IsWhole, AreRising, past, from_place, from_head, begins_at, begins, behind_details, FitUnder, IsSaid}
+use Rattle.certificate_lines.proofs.SumFoundLemmas.{with_end, head_first, head_next}
 use Rattle.certificate_lines.proofs.SumWholeLemmas.{follows}
 
 -- The end adds nothing to what lines say.
@@ -74,21 +78,17 @@ exits_end (RoutineIs r ∷ ls) e o = exits_end ls e o
 exits_end (FactIs a s r q ∷ ls) e o = exits_end ls e o
 exits_end (End ∷ ls) e o = exits_end ls e o
 
--- Lines behind a place, with the end.
-end_from : (k : ℕ) → (drop k (End ∷ []) ≡ End ∷ []) ⊎ (drop k (End ∷ []) ≡ [])
-end_from zero = inl refl
-end_from (suc k) = inr (drop_all (suc k) (End ∷ []) (omega arith))
-
-pub facts_rest : (ls : List Line) (i a : ℕ) → facts_at (drop i (ls ++ End ∷ [])) a ≡ facts_at (drop i ls) a
-facts_rest ls i a = ap (λ (x : List Line). facts_at x a) (drop_both i ls (End ∷ [])) ∙ elim (end_from (i - length ls)) [
-  | inl e ↦ ap (λ (x : List Line). facts_at (drop i ls ++ x) a) e ∙ facts_end (drop i ls) a
-  | inr e ↦ ap (λ (x : List Line). facts_at (drop i ls ++ x) a) e ∙ ap (λ (x : List Line). facts_at x a) (append-nil (drop i ls))
+-- Lines from a head on, with the end.
+pub facts_rest : (ls : List Line) (i a : ℕ) → facts_at (from_head i (ls ++ End ∷ [])) a ≡ facts_at (from_head i ls) a
+facts_rest ls i a = let w = with_end i ls in ap (λ (x : List Line). facts_at x a) w.is ∙ elim w.one [
+  | inl e ↦ ap (λ (x : List Line). facts_at (from_head i ls ++ x) a) e ∙ facts_end (from_head i ls) a
+  | inr e ↦ ap (λ (x : List Line). facts_at (from_head i ls ++ x) a) e ∙ ap (λ (x : List Line). facts_at x a) (append-nil (from_head i ls))
 ]
 
-pub exits_rest : (ls : List Line) (i e o : ℕ) → exits_at (drop i (ls ++ End ∷ [])) e o ≡ exits_at (drop i ls) e o
-exits_rest ls i e o = ap (λ (x : List Line). exits_at x e o) (drop_both i ls (End ∷ [])) ∙ elim (end_from (i - length ls)) [
-  | inl q ↦ ap (λ (x : List Line). exits_at (drop i ls ++ x) e o) q ∙ exits_end (drop i ls) e o
-  | inr q ↦ ap (λ (x : List Line). exits_at (drop i ls ++ x) e o) q ∙ ap (λ (x : List Line). exits_at x e o) (append-nil (drop i ls))
+pub exits_rest : (ls : List Line) (i e o : ℕ) → exits_at (from_head i (ls ++ End ∷ [])) e o ≡ exits_at (from_head i ls) e o
+exits_rest ls i e o = let w = with_end i ls in ap (λ (x : List Line). exits_at x e o) w.is ∙ elim w.one [
+  | inl q ↦ ap (λ (x : List Line). exits_at (from_head i ls ++ x) e o) q ∙ exits_end (from_head i ls) e o
+  | inr q ↦ ap (λ (x : List Line). exits_at (from_head i ls ++ x) e o) q ∙ ap (λ (x : List Line). exits_at x e o) (append-nil (from_head i ls))
 ]
 
 begin_end : (p : ℕ) (ls tail : List Line) → p ≤ 270336 → (tail ≡ End ∷ []) ⊎ (tail ≡ []) → BeginAt p ls → BeginAt p (ls ++ tail)
@@ -96,15 +96,15 @@ begin_end p [] tail le (inl e) h = rw e (refl, le)
 begin_end p [] tail le (inr e) h = rw e tt
 begin_end p (l ∷ ls) tail le t h = h
 
-pub begin_rest : (p : ℕ) (ls : List Line) (i : ℕ) → p ≤ 270336 → BeginAt p (drop i ls) → BeginAt p (drop i (ls ++ End ∷ []))
-begin_rest p ls i le h = subst (BeginAt p) (sym (drop_both i ls (End ∷ []))) (begin_end p (drop i ls) (drop (i - length ls) (End ∷ [])) le (end_from (i - length ls)) h)
+pub begin_rest : (p : ℕ) (ls : List Line) (i : ℕ) → p ≤ 270336 → BeginAt p (from_head i ls) → BeginAt p (from_head i (ls ++ End ∷ []))
+begin_rest p ls i le h = let w = with_end i ls in subst (BeginAt p) (sym w.is) (begin_end p (from_head i ls) w.tail le w.one h)
 
 begin_front : (p : ℕ) (ls tail : List Line) → BeginAt p (ls ++ tail) → BeginAt p ls
 begin_front p [] tail h = tt
 begin_front p (l ∷ ls) tail h = h
 
-pub begin_without : (p : ℕ) (ls : List Line) (i : ℕ) → BeginAt p (drop i (ls ++ End ∷ [])) → BeginAt p (drop i ls)
-begin_without p ls i h = begin_front p (drop i ls) (drop (i - length ls) (End ∷ [])) (subst (BeginAt p) (drop_both i ls (End ∷ [])) h)
+pub begin_without : (p : ℕ) (ls : List Line) (i : ℕ) → BeginAt p (from_head i (ls ++ End ∷ [])) → BeginAt p (from_head i ls)
+begin_without p ls i h = let w = with_end i ls in begin_front p (from_head i ls) w.tail (subst (BeginAt p) w.is h)
 
 -- Lines of another place say nothing of an address or an exit.
 other_fact : (l : Line) (ls : List Line) (a : ℕ) → (not (is_detail l) && nat_le (4096 + a) (place_of_head l)) ≡ false → facts_at (l ∷ ls) a ≡ facts_at ls a
@@ -158,20 +158,20 @@ begin_found p (l ∷ ls) = elim (cases_Bool (not (is_detail l) && nat_le p (plac
 
 -- Where the facts of an address, or the exits of an entry for an offset, begin.
 pub record FactsBegin (ls : List Line) (i a : ℕ) : Type 0 where
-  pub all : facts_at (drop i (ls ++ End ∷ [])) a ≡ facts_at (ls ++ End ∷ []) a
-  pub stands : BeginAt (4096 + a) (drop i (ls ++ End ∷ []))
+  pub all : facts_at (from_head i (ls ++ End ∷ [])) a ≡ facts_at (ls ++ End ∷ []) a
+  pub stands : BeginAt (4096 + a) (from_head i (ls ++ End ∷ []))
 
-pub facts_begin : (ls : List Line) (i a : ℕ) → 4096 + a ≤ 270336 → drop i ls ≡ from_place (4096 + a) ls → FactsBegin ls i a
+pub facts_begin : (ls : List Line) (i a : ℕ) → 4096 + a ≤ 270336 → from_head i ls ≡ from_place (4096 + a) ls → FactsBegin ls i a
 facts_begin ls i a small e = record {
   all = facts_rest ls i a ∙ (ap (λ (x : List Line). facts_at x a) e ∙ (facts_found ls a ∙ sym (facts_end ls a)));
   stands = begin_rest (4096 + a) ls i small (rw e (begin_found (4096 + a) ls));
 }
 
 pub record ExitsBegin (ls : List Line) (i e o : ℕ) : Type 0 where
-  pub all : exits_at (drop i (ls ++ End ∷ [])) e o ≡ exits_at (ls ++ End ∷ []) e o
-  pub stands : BeginAt (8192 + (64 * e + o)) (drop i (ls ++ End ∷ []))
+  pub all : exits_at (from_head i (ls ++ End ∷ [])) e o ≡ exits_at (ls ++ End ∷ []) e o
+  pub stands : BeginAt (8192 + (64 * e + o)) (from_head i (ls ++ End ∷ []))
 
-pub exits_begin : (ls : List Line) (i e o : ℕ) → 8192 + (64 * e + o) ≤ 270336 → drop i ls ≡ from_place (8192 + (64 * e + o)) ls → ExitsBegin ls i e o
+pub exits_begin : (ls : List Line) (i e o : ℕ) → 8192 + (64 * e + o) ≤ 270336 → from_head i ls ≡ from_place (8192 + (64 * e + o)) ls → ExitsBegin ls i e o
 exits_begin ls i e o small q = record {
   all = exits_rest ls i e o ∙ (ap (λ (x : List Line). exits_at x e o) q ∙ (exits_found ls e o ∙ sym (exits_end ls e o)));
   stands = begin_rest (8192 + (64 * e + o)) ls i small (rw q (begin_found (8192 + (64 * e + o)) ls));
@@ -201,11 +201,21 @@ exits_past (RoutineIs r ∷ ls) n e o h low = let z : n ≤ r.entry + 1 = h.0 in
 exits_past (FactIs a s r q ∷ ls) n e o h low = let z : n ≤ 4096 + a + 1 = h.0 in exits_past ls (4096 + a + 1) e o h.1 (omega (arith, z, low))
 exits_past (End ∷ ls) n e o h low = let z : n ≤ 270336 + 1 = h.0 in exits_past ls (270336 + 1) e o h.1 (omega (arith, z, low))
 
--- The lines behind a place rise too.
-pub rising_from : (ls : List Line) (n i : ℕ) → AreRising n ls → (m : ℕ) × AreRising m (drop i ls)
-rising_from ls n zero h = (n, h)
-rising_from [] n (suc i) h = (n, subst (AreRising n) (sym (drop_all (suc i) [] (omega arith))) tt)
-rising_from (l ∷ ls) n (suc i) h = rising_from ls (past n l) i h.1
+-- The lines from a head on rise too.
+pub rising_from : (ls : List Line) (n i : ℕ) → AreRising n ls → (m : ℕ) × AreRising m (from_head i ls)
+rising_from [] n i h = (n, none i)
+  where
+    none : (i : ℕ) → AreRising n (from_head i [])
+    none zero = tt
+    none (suc i) = tt
+rising_from (l ∷ ls) n zero h = elim (cases_Bool (is_detail l)) [
+  | inl d ↦ rw d (rising_from ls (past n l) zero h.1)
+  | inr d ↦ (n, rw d (rw d at h))
+]
+rising_from (l ∷ ls) n (suc i) h = elim (cases_Bool (is_detail l)) [
+  | inl d ↦ rw d (rising_from ls (past n l) (suc i) h.1)
+  | inr d ↦ rw d (rising_from ls (past n l) i h.1)
+]
 
 -- The first line has another place, so nothing is said of this one.
 none_first : (ls : List Line) (n p : ℕ) → AreRising n ls → BeginAt p ls → begins_at p ls ≡ false → (l : Line) (rest : List Line) → ls ≡ l ∷ rest →
@@ -325,8 +335,8 @@ pub each_followed : (v : Version) (before ls : List Line) → Follow v before ls
 each_followed v before [] h = tt
 each_followed v before (l ∷ ls) h = (h.0, each_followed v (l ∷ before) ls h.2)
 
-pub formed : (v : Version) (k : Packed) → IsWhole v k → Each (IsLine v) (said_lines k)
-formed v k w = each_followed v [] (said_lines k) (follows v [] (said_lines k) w.order).1
+pub formed : (v : Version) (k : List Line) → IsWhole v k → Each (IsLine v) k
+formed v k w = each_followed v [] k (follows v [] k w.order).1
 
 -- There is room for the details under a line.
 abbrev Fits : List Line → List Line → Type 0
@@ -362,67 +372,67 @@ details_fit v before (FactIs a s r o ∷ ls) f h = few_fit before h
 details_fit v before (ExitIs e o s r ∷ ls) f h = few_fit before h
 details_fit v before (End ∷ ls) f h = few_fit before h
 
-pub follow_from : (v : Version) (before ls : List Line) (i : ℕ) → Follow v before ls → (l : Line) (rest : List Line) → drop i ls ≡ l ∷ rest → (others : List Line) × (Follow v (l ∷ others) rest × IsLine v l)
+pub follow_from : (v : Version) (before ls : List Line) (i : ℕ) → Follow v before ls → (l : Line) (rest : List Line) → from_head i ls ≡ l ∷ rest →
+    (others : List Line) × (Follow v (l ∷ others) rest × IsLine v l)
 follow_from v before [] zero f l rest e = absurd (cc)
-follow_from v before [] (suc i) f l rest e = absurd (let z : [] ≡ l ∷ rest = sym (drop_all (suc i) [] (omega arith)) ∙ e in cc)
-follow_from v before (k ∷ ks) zero f l rest e = let a : k ≡ l = cc in let b : ks ≡ rest = cc in rw (← a, ← b) (before, (f.2, f.0))
-follow_from v before (k ∷ ks) (suc i) f l rest e = follow_from v (k ∷ before) ks i f.2 l rest e
+follow_from v before [] (suc i) f l rest e = absurd (cc)
+follow_from v before (k ∷ ks) zero f l rest e = elim (cases_Bool (is_detail k)) [
+  | inl d ↦ follow_from v (k ∷ before) ks zero f.2 l rest (rw d at e)
+  | inr d ↦ (let z : k ∷ ks ≡ l ∷ rest = rw d at e in let a : k ≡ l = cc in let b : ks ≡ rest = cc in rw (← a, ← b) (before, (f.2, f.0)))
+]
+follow_from v before (k ∷ ks) (suc i) f l rest e = elim (cases_Bool (is_detail k)) [
+  | inl d ↦ follow_from v (k ∷ before) ks (suc i) f.2 l rest (rw d at e)
+  | inr d ↦ follow_from v (k ∷ before) ks i f.2 l rest (rw d at e)
+]
 
-pub fit_under : (v : Version) (k : Packed) (i : ℕ) (l : Line) (rest : List Line) → IsWhole v k → drop i (said_lines k) ≡ l ∷ rest → is_detail l ≡ false → FitUnder rest
-fit_under v k i l rest w e d =
-    let f = follow_from v [] (said_lines k) i (follows v [] (said_lines k) w.order).1 l rest e in
-    let none : details_of_last (l ∷ f.0) ≡ [] = rw d refl in
+pub fit_under : (v : Version) (k : List Line) (i : ℕ) (l : Line) (rest : List Line) → IsWhole v k → from_head i k ≡ l ∷ rest → FitUnder rest
+fit_under v k i l rest w e =
+    let f = follow_from v [] k i (follows v [] k w.order).1 l rest e in
+    let none : details_of_last (l ∷ f.0) ≡ [] = rw (head_first i k rest l e) refl in
     let g : Fits (l ∷ f.0) rest = details_fit v (l ∷ f.0) rest f.1.0 (rw none (omega arith, omega arith, omega arith)) in
     let h = rw none at g in
     let x = h.0 in let y = h.1 in let z = h.2 in (omega (arith, x), omega (arith, y), omega (arith, z))
 
 -- The line at a place is of its form.
-pub line_formed : (v : Version) (k : Packed) (i : ℕ) (l : Line) (rest : List Line) → IsWhole v k → drop i (said_lines k) ≡ l ∷ rest → IsLine v l
-line_formed v k i l rest w e = (follow_from v [] (said_lines k) i (follows v [] (said_lines k) w.order).1 l rest e).1.1
+pub line_formed : (v : Version) (k : List Line) (i : ℕ) (l : Line) (rest : List Line) → IsWhole v k → from_head i k ≡ l ∷ rest → IsLine v l
+line_formed v k i l rest w e = (follow_from v [] k i (follows v [] k w.order).1 l rest e).1.1
 
--- The line at a place, where it is no detail.
+-- The head at a place.
 pub record NextLine (ls : List Line) (i : ℕ) : Type 0 where
   pub line : Line
-  pub there : drop i ls ≡ line ∷ drop (i + 1) ls
-  pub head : is_detail line ≡ false
+  pub rest : List Line
+  pub there : from_head i ls ≡ line ∷ rest
 
-next_of : (ls : List Line) (i : ℕ) (l : Line) (rest : List Line) → drop i ls ≡ l ∷ rest → rest ≡ drop (i + 1) ls
-next_of [] i l rest e = absurd (let z : [] ≡ l ∷ rest = sym (drop_all i [] (omega arith)) ∙ e in cc)
-next_of (k ∷ ks) zero l rest e = let z : ks ≡ rest = cc in sym z
-next_of (k ∷ ks) (suc i) l rest e = let q : suc i + 1 ≡ suc (i + 1) = omega arith in rw q (next_of ks i l rest e)
-
-pub next_line : (ls : List Line) (i p : ℕ) → begins_at p (drop i ls) ≡ true → NextLine ls i
-next_line ls i p h = go (drop i ls) refl h
+pub next_line : (ls : List Line) (i p : ℕ) → begins_at p (from_head i ls) ≡ true → NextLine ls i
+next_line ls i p h = go (from_head i ls) refl h
   where
-    go : (xs : List Line) → drop i ls ≡ xs → begins_at p xs ≡ true → NextLine ls i
+    go : (xs : List Line) → from_head i ls ≡ xs → begins_at p xs ≡ true → NextLine ls i
     go [] e h = absurd (false≢true h)
-    go (l ∷ rest) e h = record { line = l; there = e ∙ ap (λ (x : List Line). l ∷ x) (next_of ls i l rest e); head = not-true _ (and_parts (not (is_detail l)) _ h).0 }
-
-pub fit_next : (v : Version) (k : Packed) (i p : ℕ) → IsWhole v k → begins_at p (drop i (said_lines k)) ≡ true → FitUnder (drop (i + 1) (said_lines k))
-fit_next v k i p w h = let n = next_line (said_lines k) i p h in fit_under v k i n.line (drop (i + 1) (said_lines k)) w n.there n.head
+    go (l ∷ rest) e h = record { line = l; rest = rest; there = e }
 
 -- What follows the first fact at an address, or the first exit for an offset.
 pub record FactNext (ls : List Line) (i end a : ℕ) (f : Fact) : Type 0 where
-  pub next : facts_at (drop i (ls ++ End ∷ [])) a ≡ f ∷ facts_at (drop end (ls ++ End ∷ [])) a
-  pub stands : BeginAt (4096 + a) (drop end (ls ++ End ∷ []))
+  pub next : facts_at (from_head i (ls ++ End ∷ [])) a ≡ f ∷ facts_at (from_head end (ls ++ End ∷ [])) a
+  pub stands : BeginAt (4096 + a) (from_head end (ls ++ End ∷ []))
 
-pub fact_next : (v : Version) (k : Packed) (i end a : ℕ) (f : Fact) → IsWhole v k → a < 4096 → begins_at (4096 + a) (drop i (said_lines k)) ≡ true →
-    begins has_details (drop i (said_lines k)) ≡ true → IsSaid (drop i (said_lines k)) f → drop end (said_lines k) ≡ behind_details (drop (i + 1) (said_lines k)) →
-    FactNext (said_lines k) i end a f
+pub fact_next : (v : Version) (k : List Line) (i end a : ℕ) (f : Fact) → IsWhole v k → a < 4096 → begins_at (4096 + a) (from_head i k) ≡ true →
+    begins has_details (from_head i k) ≡ true → IsSaid (from_head i k) f → end ≡ i + 1 →
+    FactNext k i end a f
 fact_next v k i end a f w small h d is e =
-    let ls : List Line = said_lines k in
+    let ls : List Line = k in
     let n = next_line ls i (4096 + a) h in
+    let behind : from_head end ls ≡ behind_details n.rest = ap (λ (x : ℕ). from_head x ls) e ∙ head_next i ls n.rest n.line n.there in
     let m = rising_from ls 0 i w.rising in
-    let p = first_fact n.line (drop (i + 1) ls) m.0 a f small (rw n.there at m.1) (rw n.there at h) (rw n.there at d) (rw n.there at is) in
+    let p = first_fact n.line n.rest m.0 a f small (rw n.there at m.1) (rw n.there at h) (rw n.there at d) (rw n.there at is) in
     record {
       next = facts_rest ls i a ∙ (ap (λ (x : List Line). facts_at x a) n.there ∙ (p.0 ∙ ap (λ (x : List Fact). f ∷ x)
-          (ap (λ (x : List Line). facts_at x a) (sym e) ∙ sym (facts_rest ls end a))));
-      stands = begin_rest (4096 + a) ls end (omega (arith, small)) (rw e p.1);
+          (ap (λ (x : List Line). facts_at x a) (sym behind) ∙ sym (facts_rest ls end a))));
+      stands = begin_rest (4096 + a) ls end (omega (arith, small)) (rw behind p.1);
     }
 
 pub record ExitNext (ls : List Line) (i end x o : ℕ) (f : Fact) : Type 0 where
-  pub next : exits_at (drop i (ls ++ End ∷ [])) x o ≡ f ∷ exits_at (drop end (ls ++ End ∷ [])) x o
-  pub stands : BeginAt (8192 + (64 * x + o)) (drop end (ls ++ End ∷ []))
+  pub next : exits_at (from_head i (ls ++ End ∷ [])) x o ≡ f ∷ exits_at (from_head end (ls ++ End ∷ [])) x o
+  pub stands : BeginAt (8192 + (64 * x + o)) (from_head end (ls ++ End ∷ []))
 
 pub most_few : (v : Version) (o : ℕ) → nat_lt o (most_offsets v) ≡ true → o < 64
 most_few One o h = let z : o < 8 = ltb-true o 8 h in omega (arith, z)
@@ -438,19 +448,20 @@ has_place v (SumIs s) h = tt
 has_place v (ChainIs c) h = tt
 has_place v End h = tt
 
-pub exit_next : (v : Version) (k : Packed) (i end x o : ℕ) (f : Fact) → IsWhole v k → x < 4096 → o < 64 → begins_at (8192 + (64 * x + o)) (drop i (said_lines k)) ≡ true →
-    begins has_details (drop i (said_lines k)) ≡ true → IsSaid (drop i (said_lines k)) f → drop end (said_lines k) ≡ behind_details (drop (i + 1) (said_lines k)) →
-    ExitNext (said_lines k) i end x o f
+pub exit_next : (v : Version) (k : List Line) (i end x o : ℕ) (f : Fact) → IsWhole v k → x < 4096 → o < 64 → begins_at (8192 + (64 * x + o)) (from_head i k) ≡ true →
+    begins has_details (from_head i k) ≡ true → IsSaid (from_head i k) f → end ≡ i + 1 →
+    ExitNext k i end x o f
 exit_next v k i end x o f w low small h d is e =
-    let ls : List Line = said_lines k in
+    let ls : List Line = k in
     let n = next_line ls i (8192 + (64 * x + o)) h in
+    let behind : from_head end ls ≡ behind_details n.rest = ap (λ (x : ℕ). from_head x ls) e ∙ head_next i ls n.rest n.line n.there in
     let m = rising_from ls 0 i w.rising in
-    let form = line_formed v k i n.line (drop (i + 1) ls) w n.there in
-    let p = first_exit n.line (drop (i + 1) ls) m.0 x o f small (rw n.there at m.1) (rw n.there at h) (rw n.there at d) (has_place v n.line form.0) (rw n.there at is) in
+    let form = line_formed v k i n.line n.rest w n.there in
+    let p = first_exit n.line n.rest m.0 x o f small (rw n.there at m.1) (rw n.there at h) (rw n.there at d) (has_place v n.line form.0) (rw n.there at is) in
     record {
       next = exits_rest ls i x o ∙ (ap (λ (y : List Line). exits_at y x o) n.there ∙ (p.0 ∙ ap (λ (y : List Fact). f ∷ y)
-          (ap (λ (y : List Line). exits_at y x o) (sym e) ∙ sym (exits_rest ls end x o))));
-      stands = begin_rest (8192 + (64 * x + o)) ls end (omega (arith, low, small)) (rw e p.1);
+          (ap (λ (y : List Line). exits_at y x o) (sym behind) ∙ sym (exits_rest ls end x o))));
+      stands = begin_rest (8192 + (64 * x + o)) ls end (omega (arith, low, small)) (rw behind p.1);
     }
 
 -- A line at such a place is a fact's or an exit's.
@@ -464,20 +475,30 @@ not_plain v (SumIs s) rest p low high form h d = absurd (false≢true h)
 not_plain v (ChainIs c) rest p low high form h d = absurd (false≢true h)
 not_plain v End rest p low high form h d = absurd (let e : 270336 ≡ p = eqb-true 270336 p h in omega (arith, e, high))
 
-pub has_said : {X : Type 0} (v : Version) (k : Packed) (i p : ℕ) → IsWhole v k → 4096 ≤ p → p < 270336 → begins_at p (drop i (said_lines k)) ≡ true →
-    begins has_details (drop i (said_lines k)) ≡ false → X
+pub has_said : {X : Type 0} (v : Version) (k : List Line) (i p : ℕ) → IsWhole v k → 4096 ≤ p → p < 270336 → begins_at p (from_head i k) ≡ true →
+    begins has_details (from_head i k) ≡ false → X
 has_said v k i p w low high h d =
-    let n = next_line (said_lines k) i p h in
-    not_plain v n.line (drop (i + 1) (said_lines k)) p low high (line_formed v k i n.line (drop (i + 1) (said_lines k)) w n.there).0 (rw n.there at h) (rw n.there at d)
+    let n = next_line k i p h in
+    not_plain v n.line n.rest p low high (line_formed v k i n.line n.rest w n.there).0 (rw n.there at h) (rw n.there at d)
 
-pub none_left : (v : Version) (k : Packed) (i a : ℕ) → IsWhole v k → BeginAt (4096 + a) (drop i (said_lines k ++ End ∷ [])) → begins_at (4096 + a) (drop i (said_lines k)) ≡ false →
-    facts_at (drop i (said_lines k ++ End ∷ [])) a ≡ []
+pub none_left : (v : Version) (k : List Line) (i a : ℕ) → IsWhole v k → BeginAt (4096 + a) (from_head i (k ++ End ∷ [])) → begins_at (4096 + a) (from_head i k) ≡ false →
+    facts_at (from_head i (k ++ End ∷ [])) a ≡ []
 none_left v k i a w b f =
-    let m = rising_from (said_lines k) 0 i w.rising in
-    facts_rest (said_lines k) i a ∙ no_facts (drop i (said_lines k)) m.0 a m.1 (begin_without (4096 + a) (said_lines k) i b) f
+    let m = rising_from k 0 i w.rising in
+    facts_rest k i a ∙ no_facts (from_head i k) m.0 a m.1 (begin_without (4096 + a) k i b) f
 
-pub no_exit_left : (v : Version) (k : Packed) (i x o : ℕ) → IsWhole v k → BeginAt (8192 + (64 * x + o)) (drop i (said_lines k ++ End ∷ [])) →
-    begins_at (8192 + (64 * x + o)) (drop i (said_lines k)) ≡ false → exits_at (drop i (said_lines k ++ End ∷ [])) x o ≡ []
+pub no_exit_left : (v : Version) (k : List Line) (i x o : ℕ) → IsWhole v k → BeginAt (8192 + (64 * x + o)) (from_head i (k ++ End ∷ [])) →
+    begins_at (8192 + (64 * x + o)) (from_head i k) ≡ false → exits_at (from_head i (k ++ End ∷ [])) x o ≡ []
 no_exit_left v k i x o w b f =
-    let m = rising_from (said_lines k) 0 i w.rising in
-    exits_rest (said_lines k) i x o ∙ no_exits (drop i (said_lines k)) m.0 x o m.1 (begin_without (8192 + (64 * x + o)) (said_lines k) i b) f
+    let m = rising_from k 0 i w.rising in
+    exits_rest k i x o ∙ no_exits (from_head i k) m.0 x o m.1 (begin_without (8192 + (64 * x + o)) k i b) f
+
+-- An exit's offset is numbered.
+pub numbered : (v : Version) (said : Subject) (sets : LineSets) (line : List ℕ) → Spells v (line_said said sets) line → IsNumbered said
+numbered v (subject.Exit e o) sets line s = has_place v (line_said (subject.Exit e o) sets) s.form
+numbered v (subject.Routine e n) sets line s = tt
+numbered v (subject.Fact a) sets line s = tt
+numbered v (subject.Cell a) sets line s = tt
+numbered v (subject.Sum a) sets line s = tt
+numbered v (subject.Chain a) sets line s = tt
+numbered v subject.End sets line s = tt

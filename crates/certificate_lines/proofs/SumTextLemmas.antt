@@ -121,7 +121,7 @@ no_line_of v bytes none = go (line_of v bytes) refl
     go (Some l) e = absurd (none l (line_sound v bytes l e))
 
 -- The pieces of a text.
-feeds : (xs : List ℕ) → NoFeed xs → Each (λ c. (c == 10) ≡ false) xs
+pub feeds : (xs : List ℕ) → NoFeed xs → Each (λ c. (c == 10) ≡ false) xs
 feeds [] h = tt
 feeds (x ∷ xs) h = (ne_eqb x 10 h.0, feeds xs h.1)
 

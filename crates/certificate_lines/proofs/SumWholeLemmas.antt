@@ -6,7 +6,6 @@ use Rattle.std.proofs.lemmas.Bool.{false≢true, cases_Bool, ltb-true, eqb-true}
 use Rattle.certificate_lines.specs.declared.Version.{Version}
 use Rattle.certificate_lines.specs.Lines.{Line, End, is_end, is_detail}
 use Rattle.certificate_lines.specs.Order.{heads, may_be_level, follows_newest, place_of_head}
-use Rattle.certificate_lines.specs.Packed.{Packed, said_lines}
 use Rattle.certificate_lines.specs.Progress.{next_place}
 use Rattle.certificate_lines.specs.Found.{newest_first, AreRising, AreInOrder, Follow, Keeps, IsWhole, unended}
 
@@ -24,11 +23,11 @@ newest_both before [] ms = refl
 newest_both before (l ∷ ls) ms = newest_both (l ∷ before) ls ms
 
 -- Another line was kept.
-pub line_kept : (k new : Packed) (l : Line) (before : List Line) → is_end l ≡ false → said_lines new ≡ said_lines k ++ l ∷ [] → Keeps k before →
+pub line_kept : (k new : List Line) (l : Line) (before : List Line) → is_end l ≡ false → new ≡ k ++ l ∷ [] → Keeps k before →
     Keeps new (unended (l ∷ before))
 line_kept k new l before e so h =
     rw (not_end l before e)
-    (ap (λ (x : List Line). newest_first [] x) so ∙ (newest_both [] (said_lines k) (l ∷ []) ∙ ap (λ (x : List Line). l ∷ x) h))
+    (ap (λ (x : List Line). newest_first [] x) so ∙ (newest_both [] k (l ∷ []) ∙ ap (λ (x : List Line). l ∷ x) h))
 
 -- Lines in order follow one another.
 pub follows : (v : Version) (before ls : List Line) → AreInOrder v (newest_first before ls) → AreInOrder v before × Follow v before ls
@@ -64,5 +63,5 @@ rising v before (l ∷ ls) n f h = elim (cases_Bool (is_detail l)) [
       rw d (omega (arith, h), rising v (l ∷ before) ls (place_of_head l + 1) f.2 (rw d refl))
 ]
 
-pub whole : (v : Version) (k : Packed) → AreInOrder v (newest_first [] (said_lines k)) → list_any is_end (newest_first [] (said_lines k)) ≡ false → IsWhole v k
-whole v k order no_end = record { order = order; no_end = no_end; rising = rising v [] (said_lines k) 0 (follows v [] (said_lines k) order).1 refl }
+pub whole : (v : Version) (k : List Line) → AreInOrder v (newest_first [] k) → list_any is_end (newest_first [] k) ≡ false → IsWhole v k
+whole v k order no_end = record { order = order; no_end = no_end; rising = rising v [] k 0 (follows v [] k order).1 refl }

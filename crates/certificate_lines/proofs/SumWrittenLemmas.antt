@@ -9,10 +9,10 @@ use Rattle.certificate_lines.specs.Lines.{Line, RoutineIs, FactIs, ExitIs, CellI
 use Rattle.certificate_lines.specs.Order.{place_of_head, details_of_last}
 use Rattle.certificate_lines.specs.Reading.{facts_at}
 use Rattle.certificate_lines.specs.LineOf.{has_form}
-use Rattle.certificate_lines.specs.Packed.{Packed, said_lines}
 use Rattle.certificate_lines.specs.CertificateInCode.{BeginAt}
-use Rattle.certificate_lines.specs.Found.{IsWhole, AreRising, past, from_place, begins_at, behind_details, first_with_details}
+use Rattle.certificate_lines.specs.Found.{IsWhole, AreRising, past, from_place, from_head, begins_at, behind_details, first_with_details}
 use Rattle.certificate_lines.specs.Written.{facts_lines}
+use Rattle.certificate_lines.proofs.SumFoundLemmas.{head_next}
 use Rattle.certificate_lines.proofs.SumReaderLemmas.{begin_found, begin_behind, rising_from, no_facts, next_line, line_formed}
 
 -- The end adds no line to a fact.
@@ -113,48 +113,48 @@ none_of (x ∷ xs) e = absurd (omega (arith, e))
 
 -- So many facts at an address stand before a line, and the others from it on.
 pub record IsPassed (ls : List Line) (a i n : ℕ) : Type 0 where
-  pub others : drop n (facts_lines ls a) ≡ facts_lines (drop i ls) a
-  pub stands : BeginAt (4096 + a) (drop i ls)
+  pub others : drop n (facts_lines ls a) ≡ facts_lines (from_head i ls) a
+  pub stands : BeginAt (4096 + a) (from_head i ls)
 
-pub none_passed : (ls : List Line) (a i : ℕ) → drop i ls ≡ from_place (4096 + a) ls → IsPassed ls a i 0
+pub none_passed : (ls : List Line) (a i : ℕ) → from_head i ls ≡ from_place (4096 + a) ls → IsPassed ls a i 0
 none_passed ls a i e = record { others = rw e (sym (lines_found ls a)); stands = rw e (begin_found (4096 + a) ls) }
 
-module _ (v : Version) (k : Packed) (a i n : ℕ) (w : IsWhole v k) (p : IsPassed (said_lines k) a i n) where
-  first_here : a < 4096 → begins_at (4096 + a) (drop i (said_lines k)) ≡ true →
-      (l : Line) × (drop i (said_lines k) ≡ l ∷ drop (i + 1) (said_lines k)) ×
-      (drop n (facts_lines (said_lines k) a) ≡ (l ∷ details_of_last (drop (i + 1) (said_lines k))) ∷ facts_lines (behind_details (drop (i + 1) (said_lines k))) a) ×
-      BeginAt (4096 + a) (behind_details (drop (i + 1) (said_lines k)))
+module _ (v : Version) (k : List Line) (a i n : ℕ) (w : IsWhole v k) (p : IsPassed k a i n) where
+  first_here : a < 4096 → begins_at (4096 + a) (from_head i k) ≡ true →
+      (l : Line) × (rest : List Line) × (from_head i k ≡ l ∷ rest) ×
+      (drop n (facts_lines k a) ≡ (l ∷ details_of_last rest) ∷ facts_lines (behind_details rest) a) × BeginAt (4096 + a) (behind_details rest)
   first_here small h =
-      let q = next_line (said_lines k) i (4096 + a) h in
-      let form = line_formed v k i q.line (drop (i + 1) (said_lines k)) w q.there in
-      let m = rising_from (said_lines k) 0 i w.rising in
-      let t : begins_at (4096 + a) (q.line ∷ drop (i + 1) (said_lines k)) ≡ true = rw q.there at h in
+      let q = next_line k i (4096 + a) h in
+      let form = line_formed v k i q.line q.rest w q.there in
+      let m = rising_from k 0 i w.rising in
+      let t : begins_at (4096 + a) (q.line ∷ q.rest) ≡ true = rw q.there at h in
       let b = and_parts (not (is_detail q.line)) _ t in
       let at : place_of_head q.line ≡ 4096 + a = eqb-true (place_of_head q.line) (4096 + a) b.1 in
-      let up : AreRising (past m.0 q.line) (drop (i + 1) (said_lines k)) = (rw q.there at m.1).1 in
+      let up : AreRising (past m.0 q.line) q.rest = (rw q.there at m.1).1 in
       let d : is_detail q.line ≡ false = not-true _ b.0 in (
         q.line,
+        q.rest,
         q.there,
-        p.others ∙ (ap (λ (x : List Line). facts_lines x a) q.there ∙ first_lines v q.line (drop (i + 1) (said_lines k)) a small form.0 t),
-        begin_behind (drop (i + 1) (said_lines k)) (4096 + a) (rw (d, at) at up),
+        p.others ∙ (ap (λ (x : List Line). facts_lines x a) q.there ∙ first_lines v q.line q.rest a small form.0 t),
+        begin_behind q.rest (4096 + a) (rw (d, at) at up),
       )
 
-  pub one_passed : (end : ℕ) → a < 4096 → begins_at (4096 + a) (drop i (said_lines k)) ≡ true → drop end (said_lines k) ≡ behind_details (drop (i + 1) (said_lines k)) →
-      IsPassed (said_lines k) a end (n + 1)
+  pub one_passed : (end : ℕ) → a < 4096 → begins_at (4096 + a) (from_head i k) ≡ true → end ≡ i + 1 → IsPassed k a end (n + 1)
   one_passed end small h e =
       let f = first_here small h in
-      record { others = tail_of (facts_lines (said_lines k) a) n _ _ f.2 ∙ ap (λ (x : List Line). facts_lines x a) (sym e); stands = rw e f.3 }
+      let behind : from_head end k ≡ behind_details f.1 = ap (λ (x : ℕ). from_head x k) e ∙ head_next i k f.1 f.0 f.2 in
+      record { others = tail_of (facts_lines k a) n _ _ f.3 ∙ ap (λ (x : List Line). facts_lines x a) (sym behind); stands = rw behind f.4 }
 
-  pub fewer : (m : ℕ) → n ≤ m → begins_at (4096 + a) (drop i (said_lines k)) ≡ false → get_or (facts_lines (said_lines k) a) m [] ≡ []
+  pub fewer : (m : ℕ) → n ≤ m → begins_at (4096 + a) (from_head i k) ≡ false → get_or (facts_lines k a) m [] ≡ []
   fewer m le f =
-      let r = rising_from (said_lines k) 0 i w.rising in
-      let none : facts_at (drop i (said_lines k)) a ≡ [] = no_facts (drop i (said_lines k)) r.0 a r.1 p.stands f in
-      let no_lines : facts_lines (drop i (said_lines k)) a ≡ [] = none_of _ (lines_count (drop i (said_lines k)) a ∙ ap length none) in
-      let long : length (drop n (facts_lines (said_lines k) a)) ≡ 0 = ap length (p.others ∙ no_lines) in
-      let less : length (drop n (facts_lines (said_lines k) a)) ≡ length (facts_lines (said_lines k) a) - n = length-drop n (facts_lines (said_lines k) a) in
-      get_or_past (facts_lines (said_lines k) a) m [] (omega (arith, long, less, le))
+      let r = rising_from k 0 i w.rising in
+      let none : facts_at (from_head i k) a ≡ [] = no_facts (from_head i k) r.0 a r.1 p.stands f in
+      let no_lines : facts_lines (from_head i k) a ≡ [] = none_of _ (lines_count (from_head i k) a ∙ ap length none) in
+      let long : length (drop n (facts_lines k a)) ≡ 0 = ap length (p.others ∙ no_lines) in
+      let less : length (drop n (facts_lines k a)) ≡ length (facts_lines k a) - n = length-drop n (facts_lines k a) in
+      get_or_past (facts_lines k a) m [] (omega (arith, long, less, le))
 
-  pub its_lines : a < 4096 → begins_at (4096 + a) (drop i (said_lines k)) ≡ true → first_with_details (drop i (said_lines k)) ≡ get_or (facts_lines (said_lines k) a) n []
+  pub its_lines : a < 4096 → begins_at (4096 + a) (from_head i k) ≡ true → first_with_details (from_head i k) ≡ get_or (facts_lines k a) n []
   its_lines small h =
       let f = first_here small h in
-      ap first_with_details f.1 ∙ sym (first_of (facts_lines (said_lines k) a) n [] _ _ f.2)
+      ap first_with_details f.2 ∙ sym (first_of (facts_lines k a) n [] _ _ f.3)

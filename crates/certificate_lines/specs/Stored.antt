@@ -38,8 +38,17 @@ heads_of start l = heads_from start (l ∷ [])
 abbrev pub Begins : {X : Type 0} → List X → List X → Type 0
 Begins {X = X} old new = (more : List X) × (new ≡ old ++ more)
 
+-- The bytes are the text of lines.
+pub record IsText (bytes : List ℕ) : Type 0 where
+  pub is : bytes ≡ all_ended Three (lines_in bytes)
+  pub form : Each (IsLine Three) (lines_in bytes)
+
 -- The bytes are the text of lines, and these are their heads.
 pub record IsStored (bytes : List ℕ) (heads : List Head) : Type 0 where
-  pub text : bytes ≡ all_ended Three (lines_in bytes)
-  pub form : Each (IsLine Three) (lines_in bytes)
+  pub text : IsText bytes
   pub heads : heads ≡ heads_from 0 (lines_in bytes)
+
+-- The lines behind the first one.
+abbrev pub others : List Line → List Line
+others [] = []
+others (l ∷ ls) = ls

@@ -14,7 +14,7 @@ ghost use Rattle.domain.specs.Chains.{Step as SaidStep};
 ghost use Rattle.domain.specs.InCode.{term_of, summand_of, sum_of};
 ghost use Rattle.domain.specs.ChainsInCode.{step_of, chain_of};
 ghost use Rattle.certificate_lines.specs.FieldSpelling.{marks, set_text, digits, offsets_text, offset_set_text, name_text, rank_text};
-ghost use Rattle.certificate_lines.specs.RisingLists.{place_of_name, EndsBefore};
+ghost use Rattle.certificate_lines.specs.RisingLists.{place_of_name, EndsBefore, IsOfLinks};
 ghost use Rattle.certificate_lines.specs.FieldsLeft.{left, run_text, NoDash, EndsField, EndsLine};
 ghost use Rattle.certificate_lines.specs.Fields.{with_run, step_rest, AreSteps};
 ghost use Rattle.certificate_lines.specs.Spelling.{term_text, coefficient_text, further_text, sum_text, step_text};
@@ -44,7 +44,8 @@ fn digit_of(byte: u8) -> usize
 
 /// Puts the offsets from one to another in, both of them.
 fn insert_offsets(found: &mut ReturnOffsets, first: usize, last: usize)
-    requires { last < 64 }
+    requires order { first ≤ last }
+    requires small { last < 64 }
     ensures { (v : ℕ) → offsets_in found.new v ≡ with_run first last (offsets_in found.old) v }
 {
     for offset in first..last + 1 {
@@ -120,7 +121,7 @@ impl<'a> Fields<'a> {
 
     /// Passes over some text that stands here.
     pub fn skip(&mut self, text: &[u8])
-        ensures only { (rest : List ℕ) → left self.old ≡ text.now ++ rest → left self.new ≡ rest }
+        ensures { (rest : List ℕ) → left self.old ≡ text.now ++ rest → left self.new ≡ rest }
     {
         if let Some(rest) = self.rest.strip_prefix(text) {
             self.rest = rest;
@@ -192,7 +193,7 @@ impl<'a> Fields<'a> {
 
     /// Makes a set one of words by its runs, of which there is one at least.
     fn runs(&mut self, set: &mut WordSet)
-        ensures only { (s : Words) (rest : List ℕ) → EndsBefore 4096 s → has_some s ≡ true → EndsField rest →
+        ensures { (s : Words) (rest : List ℕ) → EndsBefore 4096 s → has_some s ≡ true → EndsField rest →
             left self.old ≡ marks octal_text 4096 s ++ rest → (words set.new ≡ s) × (left self.new ≡ rest) }
     {
         *set = WordSet::empty();
@@ -208,6 +209,16 @@ impl<'a> Fields<'a> {
     /// A set of words by its runs, `-` where there are none.
     pub fn set(&mut self, set: &mut LineSet)
         ensures only { (s : Words) (rest : List ℕ) → EndsBefore 4096 s → EndsField rest →
+            left self.old ≡ set_text s ++ rest → (set_in set.new ≡ s) × (left self.new ≡ rest) }
+        ensures ends { EndsBefore 4096 (set_in set.new) }
+    {
+        self.read_set(set);
+        set.is_of_words();
+    }
+
+    /// The same.
+    fn read_set(&mut self, set: &mut LineSet)
+        ensures { (s : Words) (rest : List ℕ) → EndsBefore 4096 s → EndsField rest →
             left self.old ≡ set_text s ++ rest → (set_in set.new ≡ s) × (left self.new ≡ rest) }
     {
         if self.takes(b'-') {
@@ -243,8 +254,8 @@ impl<'a> Fields<'a> {
 
     /// Links: `0`, `1` or `01`.
     pub fn links(&mut self) -> Links
-        ensures only { (l : Links) (rest : List ℕ) → EndsField rest →
-            left self.old ≡ digits 2 (links_of l) ++ rest → (result ≡ l) × (left self.new ≡ rest) }
+        ensures { (s : Words) (rest : List ℕ) → IsOfLinks s → EndsField rest →
+            left self.old ≡ digits 2 s ++ rest → (links_of result ≡ s) × (left self.new ≡ rest) }
     {
         links_among(self.digits(2))
     }
@@ -264,6 +275,7 @@ impl<'a> Fields<'a> {
     /// A run of offsets: its first one and its last one, of two digits each.
     fn offset_run(&mut self) -> (usize, usize)
         ensures small { result.1 < 64 }
+        ensures rising { result.0 ≤ result.1 }
         ensures only { (low high : ℕ) (rest : List ℕ) → low ≤ high → high < 64 → NoDash rest →
             left self.old ≡ run_text rank_text low high ++ rest →
             (result.0 ≡ low) × (result.1 ≡ high) × (left self.new ≡ rest) }
@@ -271,7 +283,7 @@ impl<'a> Fields<'a> {
     {
         let low = self.rank();
         if self.takes(b'-') {
-            (low, self.rank())
+            (low, self.rank().max(low))
         } else {
             (low, low)
         }
@@ -279,7 +291,7 @@ impl<'a> Fields<'a> {
 
     /// The offsets of a fact in version 3: their runs, `-` where there are none.
     pub fn offset_set(&mut self) -> ReturnOffsets
-        ensures only { (s : Words) (rest : List ℕ) → EndsBefore 64 s → EndsField rest →
+        ensures { (s : Words) (rest : List ℕ) → EndsBefore 64 s → EndsField rest →
             left self.old ≡ offset_set_text s ++ rest → (offsets_in result ≡ s) × (left self.new ≡ rest) }
     {
         let mut found = ReturnOffsets::none();
@@ -297,7 +309,7 @@ impl<'a> Fields<'a> {
 
     /// `AC` or a cell's address.
     pub fn name(&mut self) -> Location
-        ensures only { (n : Named) (rest : List ℕ) → place_of_name n < 4097 → left self.old ≡ name_text n ++ rest →
+        ensures { (n : Named) (rest : List ℕ) → place_of_name n < 4097 → left self.old ≡ name_text n ++ rest →
             (location_of result ≡ n) × (left self.new ≡ rest) }
     {
         if self.takes(b'A') {
@@ -309,7 +321,7 @@ impl<'a> Fields<'a> {
 
     /// A term: `AC`, a cell, or a cell and a number in brackets.
     fn term(&mut self) -> Term
-        ensures only { (t : said.Term) (rest : List ℕ) → is_term t ≡ true → left self.old ≡ term_text t ++ rest →
+        ensures { (t : said.Term) (rest : List ℕ) → is_term t ≡ true → left self.old ≡ term_text t ++ rest →
             (term_of result ≡ t) × (left self.new ≡ rest) }
     {
         if !self.takes(b'[') {
@@ -324,7 +336,7 @@ impl<'a> Fields<'a> {
 
     /// A coefficient: `+` for 1, `-` for minus one, else four digits.
     fn coefficient(&mut self) -> Word
-        ensures only { (c : ℕ) (rest : List ℕ) → c < 4096 → left self.old ≡ coefficient_text c ++ rest →
+        ensures { (c : ℕ) (rest : List ℕ) → c < 4096 → left self.old ≡ coefficient_text c ++ rest →
             (result ≡ c) × (left self.new ≡ rest) }
     {
         if self.takes(b'+') {
@@ -338,7 +350,7 @@ impl<'a> Fields<'a> {
 
     /// A term after the first one with its coefficient, each after a space.
     fn summand(&mut self) -> Summand
-        ensures only { (s : said.Summand) (rest : List ℕ) → is_term s.term ≡ true → s.coefficient < 4096 →
+        ensures { (s : said.Summand) (rest : List ℕ) → is_term s.term ≡ true → s.coefficient < 4096 →
             left self.old ≡ further_text s ++ rest → (summand_of result ≡ s) × (left self.new ≡ rest) }
     {
         self.skip(b" ");
@@ -350,7 +362,7 @@ impl<'a> Fields<'a> {
 
     /// A sum of two or three terms, and ` in `.
     pub fn sum(&mut self) -> Sum
-        ensures only { (s : said.Sum) (rest : List ℕ) → is_relation s ≡ true →
+        ensures { (s : said.Sum) (rest : List ℕ) → is_relation s ≡ true →
             left self.old ≡ sum_text s ++ codes " in " ++ rest → (sum_of result ≡ s) × (left self.new ≡ rest) }
     {
         let mut sum = Sum::of_name(self.name());
@@ -365,7 +377,7 @@ impl<'a> Fields<'a> {
 
     /// A step after its space.
     fn step(&mut self) -> Step
-        ensures only { (p : SaidStep) (rest : List ℕ) → is_step p ≡ true → left self.old ≡ step_rest p ++ rest →
+        ensures { (p : SaidStep) (rest : List ℕ) → is_step p ≡ true → left self.old ≡ step_rest p ++ rest →
             (step_of result ≡ p) × (left self.new ≡ rest) }
     {
         if self.takes_text(b"AND ") {
@@ -380,7 +392,7 @@ impl<'a> Fields<'a> {
     /// Adds at most 16 steps to a chain that has none.
     pub fn steps(&mut self, chain: &mut Chain)
         requires { (chain_of chain.old).steps ≡ [] }
-        ensures only { (ps : List SaidStep) (rest : List ℕ) → AreSteps ps → EndsLine rest →
+        ensures { (ps : List SaidStep) (rest : List ℕ) → AreSteps ps → EndsLine rest →
             left self.old ≡ flat_map step_text ps ++ rest →
             (chain_of chain.new ≡ record (chain_of chain.old) { steps = ps }) × (left self.new ≡ rest) }
     {

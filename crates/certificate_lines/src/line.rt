@@ -47,7 +47,8 @@ fn read_sites(version: Version, fields: &mut Fields<'_>, sites: &mut LineSet)
 
 /// What MQ may hold, where it is written.
 fn read_told_mq(fields: &mut Fields<'_>, mq: &mut LineSet)
-    ensures { (s : Words) (rest : List ℕ) → EndsBefore 4096 s → EndsField rest →
+    ensures ends { EndsBefore 4096 (set_in mq.new) }
+    ensures only { (s : Words) (rest : List ℕ) → EndsBefore 4096 s → EndsField rest →
         left fields.old ≡ mq_text spelled.Three s ++ rest → (set_in mq.new ≡ s) × (left fields.new ≡ rest) }
 {
     fields.skip(b" mq ");
@@ -231,6 +232,23 @@ fn read_end(fields: &mut Fields<'_>) -> Subject
     Subject::End
 }
 
+/// The line of a sum or a chain, as version 3 has them.
+fn read_sum_or_chain(fields: &mut Fields<'_>, sets: &mut LineSets) -> Subject
+    ensures fits { LineFits spelled.Three (line_said result sets.new) }
+    ensures relation { (r : Relation) (rest : List ℕ) → has_form spelled.Three (SumIs r) ≡ true →
+        LineFits spelled.Three (SumIs r) → EndsLine rest → left fields.old ≡ relation_line spelled.Three r ++ rest →
+        (line_said result sets.new ≡ SumIs r) × (left fields.new ≡ rest) }
+    ensures chain { (c : SaidChain) (rest : List ℕ) → has_form spelled.Three (ChainIs c) ≡ true →
+        LineFits spelled.Three (ChainIs c) → EndsLine rest → left fields.old ≡ chain_line c ++ rest →
+        (line_said result sets.new ≡ ChainIs c) × (left fields.new ≡ rest) }
+{
+    let rest = fields.rest();
+    match rest {
+        [b's', ..] => read_sum(fields, sets),
+        _ => read_chain(fields),
+    }
+}
+
 /// The line of a relation or a chain, which differ by the version.
 fn read_detail(version: Version, fields: &mut Fields<'_>, sets: &mut LineSets) -> Subject
     ensures fits { LineFits version (line_said result sets.new) }
@@ -244,10 +262,7 @@ fn read_detail(version: Version, fields: &mut Fields<'_>, sets: &mut LineSets) -
     match version {
         Version::One => read_equation(fields, sets),
         Version::Two => read_equation(fields, sets),
-        Version::Three => match fields.rest() {
-            [b's', ..] => read_sum(fields, sets),
-            _ => read_chain(fields),
-        },
+        Version::Three => read_sum_or_chain(fields, sets),
     }
 }
 
@@ -258,7 +273,8 @@ pub fn read_line(version: Version, fields: &mut Fields<'_>, sets: &mut LineSets)
     ensures only { (l : SaidLine) (rest : List ℕ) → has_form version l ≡ true → LineFits version l → EndsLine rest →
         left fields.old ≡ line_text version l ++ rest → (line_said result sets.new ≡ l) × (left fields.new ≡ rest) }
 {
-    match fields.rest() {
+    let rest = fields.rest();
+    match rest {
         [b'r', ..] => read_routine(fields, sets),
         [b'f', b'a', ..] => read_fact(version, fields, sets),
         [b'c', ..] => read_cell(fields, sets),

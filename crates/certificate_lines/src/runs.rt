@@ -77,6 +77,13 @@ impl LineSet {
         }
     }
 
+    /// Shows that it has no number past the last word, which proofs need.
+    pub fn is_of_words(&self)
+        ensures { EndsBefore 4096 (set_in self.now) }
+    {
+        let _last = self.run.last.index();
+    }
+
     /// Takes all words away.
     pub fn clear(&mut self)
         ensures { set_in self.new ≡ nothing }

@@ -15,7 +15,7 @@ ghost use Rattle.certificate_lines.specs.Spelling.{line_text};
 ghost use Rattle.certificate_lines.specs.Spelled.{all_ended};
 ghost use Rattle.certificate_lines.specs.Said.{line_said, head_line, IsNumbered};
 ghost use Rattle.certificate_lines.specs.Made.{routine_line_of, details_of};
-ghost use Rattle.certificate_lines.specs.Stored.{Begins, heads_of};
+ghost use Rattle.certificate_lines.specs.Stored.{Begins, heads_of, lines_in, IsText};
 ghost use Rattle.certificate_lines.specs.Found.{IsLine, AreRising, from_head, from_place, begins_at, least_place, first_with_details};
 
 use crate::{RoutineClaim, Version};
@@ -84,7 +84,8 @@ fn push_line<A: Allocator>(text: &mut Vec<u8, A>, line: &[u8]) -> Result<(), All
     ensures front { Begins text.old.items text.new.items }
 {
     text.extend_from_slice(line)?;
-    text.push(b'\n')
+    text.push(b'\n')?;
+    Ok(())
 }
 
 /// Adds the head of a line whose text begins here and was added; where either is refused, the text ends here again.
@@ -127,7 +128,8 @@ fn push_head<A: Allocator>(
     heads.push(Head {
         place: said.place(),
         start,
-    })
+    })?;
+    Ok(())
 }
 
 /// Adds the line of a tracked cell.
@@ -266,7 +268,8 @@ impl<A: Allocator + Copy> LineStore<A> {
 impl<A: Allocator> LineStore<A> {
     /// The text of the lines in version 3, each with its line feed.
     pub fn text(&self) -> &[u8]
-        ensures { result.now ≡ all_ended Three self.now }
+        ensures text { IsText result.now }
+        ensures lines { lines_in result.now ≡ self.now }
     {
         self.text.as_slice()
     }
@@ -341,7 +344,12 @@ impl<A: Allocator> LineStore<A> {
         if at == 0 || at >= self.heads.len() {
             return false;
         }
-        self.heads[at - 1].place < place && place <= self.heads[at].place
+        let before = &self.heads[at - 1];
+        if before.place >= place {
+            return false;
+        }
+        let head = &self.heads[at];
+        place <= head.place
     }
 
     /// Which of the heads is the first at a place or after it, or how many there are: it is looked first at one of them.
@@ -357,9 +365,14 @@ impl<A: Allocator> LineStore<A> {
 
     /// Whether a head is at a place.
     pub fn is_at(&self, at: usize, place: usize) -> bool
-        ensures { result ≡ begins_at place (from_head at self.now) }
+        ensures at { result ≡ begins_at place (from_head at self.now) }
+        ensures small { result ≡ true → at + 1 < 18446744073709551616 }
     {
-        at < self.heads.len() && self.heads[at].place == place
+        if at >= self.heads.len() {
+            return false;
+        }
+        let head = &self.heads[at];
+        head.place == place
     }
 
     /// The least place of a line from a number on, or that of the end, which is not kept. It is looked first at one of the heads.
@@ -368,27 +381,27 @@ impl<A: Allocator> LineStore<A> {
         ensures { result ≡ least_place (from_place from self.now) }
     {
         let at = self.from(near, from);
-        if at < self.heads.len() {
-            self.heads[at].place
-        } else {
-            LAST_PLACE
+        if at >= self.heads.len() {
+            return LAST_PLACE;
         }
+        let head = &self.heads[at];
+        head.place
     }
 
     /// The text of a head and its details in version 3; none where there is no such head.
     pub fn text_of(&self, at: usize) -> &[u8]
-        ensures { result.now ≡ all_ended Three (first_with_details (from_head at self.now)) }
+        ensures text { IsText result.now }
+        ensures lines { lines_in result.now ≡ first_with_details (from_head at self.now) }
     {
         let count = self.heads.len();
         if at >= count {
             return &[];
         }
-        let start = self.heads[at].start;
-        let end = if at + 1 < count {
-            self.heads[at + 1].start
-        } else {
-            self.text.len()
-        };
-        &self.text[start..end]
+        let head = &self.heads[at];
+        if at + 1 >= count {
+            return &self.text[head.start..self.text.len()];
+        }
+        let next = &self.heads[at + 1];
+        &self.text[head.start..next.start]
     }
 }

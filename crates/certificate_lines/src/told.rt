@@ -1,6 +1,7 @@
 //! How the text of lines is read into a fact that is lent, or into what is claimed of a routine.
 
 ghost use Rattle.std.specs.Prelude.{ℕ, ◌≡◌, ◌<◌, List, [], ◌∷◌, ◌++◌, length, true, false, is_some, IfSome};
+ghost use Rattle.wordset.specs.Words.{between};
 ghost use Rattle.domain.specs.Locations.{Ac};
 ghost use Rattle.domain.specs.InCode.{sum_of};
 ghost use Rattle.domain.specs.Offsets.{offsets_in};
@@ -11,15 +12,16 @@ ghost use Rattle.certificate_lines.specs.declared.Version.TheVariants.{Three};
 ghost use Rattle.certificate_lines.specs.FieldsLeft.{left};
 ghost use Rattle.certificate_lines.specs.Lines.{Line as SaidLine, is_detail, has_details, is_routine};
 ghost use Rattle.certificate_lines.specs.Spelled.{all_ended};
-ghost use Rattle.certificate_lines.specs.Reading.{fact_said};
-ghost use Rattle.certificate_lines.specs.Adding.{Adds, HasRoomFor};
-ghost use Rattle.certificate_lines.specs.Found.{IsLine, IsSaid, IsRoutineLine, FitUnder};
+ghost use Rattle.certificate_lines.specs.Reading.{fact_said, cells_under, relations_under, chains_under};
+ghost use Rattle.certificate_lines.specs.Adding.{Adds, AddsAll, HasRoomFor, HasRoomUnder};
+ghost use Rattle.certificate_lines.specs.Stored.{lines_in, others, IsText};
+ghost use Rattle.certificate_lines.specs.Found.{IsLine, IsSaid, BeginsRoutine, FitUnder, begins};
 ghost use Rattle.certificate_lines.specs.Said.{set_in, registers_in, line_said};
 
 use crate::fields::Fields;
 use crate::line::read_line;
 use crate::said::{CertifiedFact, LineSets, Subject};
-use crate::runs::LineSet;
+use crate::runs::{LineSet, Run};
 use crate::{RoutineClaim, Version};
 use domain::{ReturnOffsets, Sum};
 use word12::Word;
@@ -100,7 +102,22 @@ fn track(cell: Word, set: &LineSet, fact: &mut CertifiedFact)
     }
 }
 
-/// The lent fact tells of a sum more. Many have one word.
+/// The lent fact tells of a sum more, which has the words of a run. Many have one word.
+fn relate_run(sum: &Sum, run: &Run, fact: &mut CertifiedFact)
+    requires room { length (fact_in_code fact.old).relations < 32 }
+    ensures fact { fact_in_code fact.new ≡ record (fact_in_code fact.old) {
+      relations = (fact_in_code fact.old).relations ++ record { sum = sum_of sum.now; set = between run.now.first run.now.last } ∷ [];
+    } }
+    ensures cells { cell_sets_of fact.new.cells ≡ cell_sets_of fact.old.cells }
+{
+    if run.first == run.last {
+        fact.relate_one(sum, run.first);
+        return;
+    }
+    fact.relate(sum, &WordSet::range(run.first, run.last));
+}
+
+/// The lent fact tells of a sum more.
 fn relate(sum: &Sum, set: &LineSet, fact: &mut CertifiedFact)
     requires room { length (fact_in_code fact.old).relations < 32 }
     ensures fact { fact_in_code fact.new ≡ record (fact_in_code fact.old) {
@@ -108,13 +125,11 @@ fn relate(sum: &Sum, set: &LineSet, fact: &mut CertifiedFact)
     } }
     ensures cells { cell_sets_of fact.new.cells ≡ cell_sets_of fact.old.cells }
 {
-    if set.is_run && set.run.first == set.run.last {
-        fact.relate_one(sum, set.run.first);
-        return;
+    if set.is_run {
+        relate_run(sum, &set.run, fact);
+    } else {
+        fact.relate(sum, &set.whole);
     }
-    let mut whole = WordSet::empty();
-    set.put(&mut whole);
-    fact.relate(sum, &whole);
 }
 
 /// The lent fact says what a detail says.
@@ -126,39 +141,82 @@ fn add_detail(said: &Subject, sets: &LineSets, fact: &mut CertifiedFact)
         Subject::Cell(cell) => track(*cell, &sets.words, fact),
         Subject::Sum(sum) => relate(sum, &sets.words, fact),
         Subject::Chain(chain) => fact.add_chain(chain),
-        _ => {}
+        Subject::Routine(_, _) => {}
+        Subject::Fact(_) => {}
+        Subject::Exit(_, _) => {}
+        Subject::End => {}
     }
 }
 
-/// Whether the text is that of a fact or an exit, which the lent fact then says; of an exit it has all offsets.
+/// Whether a line is that of a fact or an exit, which the lent fact then says without its details; of an exit it has all
+/// offsets.
+fn put_head(said: &Subject, sets: &LineSets, fact: &mut CertifiedFact) -> bool
+    ensures there { result ≡ has_details (line_said said.now sets.now) }
+    ensures says { result ≡ true → IsSaid (line_said said.now sets.now ∷ []) (fact_in_code fact.new) }
+    ensures cells { result ≡ true → cell_sets_of fact.new.cells ≡ [] }
+    ensures kept { result ≡ false → fact.new ≡ fact.old }
+{
+    match said {
+        Subject::Fact(_) => {
+            begin(sets, sets.offsets, fact);
+            true
+        }
+        Subject::Exit(_, _) => {
+            begin(sets, ReturnOffsets::all(), fact);
+            true
+        }
+        _ => false,
+    }
+}
+
+/// Whether a text is that of a fact or an exit with its details, which the lent fact then says.
 pub fn put_fact(text: &[u8], fact: &mut CertifiedFact) -> bool
-    requires { (l : SaidLine) × (under : List SaidLine) × IsLine Three l × Each (IsLine Three) under ×
-        Each (λ d. is_detail d ≡ true) under × FitUnder under × (text.now ≡ all_ended Three (l ∷ under)) }
-    ensures says { (l : SaidLine) (under : List SaidLine) → IsLine Three l → Each (IsLine Three) under →
-        Each (λ d. is_detail d ≡ true) under → text.now ≡ all_ended Three (l ∷ under) →
-        (result ≡ has_details l) × (result ≡ true → IsSaid (l ∷ under) (fact_in_code fact.new)) }
+    requires text { IsText text.now }
+    requires details { Each (λ l. is_detail l ≡ true) (others (lines_in text.now)) }
+    requires room { FitUnder (others (lines_in text.now)) }
+    ensures there { result ≡ begins has_details (lines_in text.now) }
+    ensures says { result ≡ true → IsSaid (lines_in text.now) (fact_in_code fact.new) }
+    ensures kept { result ≡ false → fact.new ≡ fact.old }
 {
     let mut sets = LineSets::none();
     let mut fields = Fields::of(text);
-    match next_line(&mut fields, &mut sets) {
-        Subject::Fact(_) => begin(&sets, sets.offsets, fact),
-        Subject::Exit(_, _) => begin(&sets, ReturnOffsets::all(), fact),
-        _ => return false,
+    if fields.rest().is_empty() {
+        return false;
     }
-    while !fields.rest().is_empty() {
-        let said = next_line(&mut fields, &mut sets);
-        add_detail(&said, &sets, fact);
+    let said = next_line(&mut fields, &mut sets);
+    if !put_head(&said, &sets, fact) {
+        return false;
     }
+    add_details(&mut fields, &mut sets, fact);
     true
 }
 
-/// What the text says of a routine, if it does.
+/// The lent fact says what details say, of which this is the text.
+fn add_details(fields: &mut Fields<'_>, sets: &mut LineSets, fact: &mut CertifiedFact)
+    requires text { IsText (left fields.old) }
+    requires details { Each (λ l. is_detail l ≡ true) (lines_in (left fields.old)) }
+    requires room { HasRoomUnder fact.old (cells_under (lines_in (left fields.old))) (relations_under (lines_in (left fields.old)))
+        (chains_under (lines_in (left fields.old))) }
+    ensures { AddsAll fact.old fact.new (cells_under (lines_in (left fields.old))) (relations_under (lines_in (left fields.old)))
+        (chains_under (lines_in (left fields.old))) }
+{
+    while !fields.rest().is_empty() {
+        let said = next_line(fields, sets);
+        add_detail(&said, sets, fact);
+    }
+}
+
+/// What a text says of a routine, if it does.
 pub fn routine_of(text: &[u8]) -> Option<RoutineClaim>
-    ensures { (l : SaidLine) (ls : List SaidLine) → IsLine Three l → text.now ≡ all_ended Three (l ∷ ls) →
-        (is_some result ≡ is_routine l) × IfSome result (λ r. IsRoutineLine l r) }
+    requires { IsText text.now }
+    ensures there { is_some result ≡ begins is_routine (lines_in text.now) }
+    ensures says { IfSome result (λ r. BeginsRoutine (lines_in text.now) r) }
 {
     let mut sets = LineSets::none();
     let mut fields = Fields::of(text);
+    if fields.rest().is_empty() {
+        return None;
+    }
     match next_line(&mut fields, &mut sets) {
         Subject::Routine(_, rank) => {
             let mut claim = RoutineClaim {

@@ -2,7 +2,7 @@ use Rattle.std.specs.Prelude.{is_ok}
 use Rattle.domain.specs.CellsInCode.{cell_sets_of}
 use Rattle.domain.specs.FactInCode.{fact_in_code}
 use Rattle.certificate_lines.specs.Lines.{ExitIs, is_of_sums}
-use Rattle.certificate_lines.specs.Packed.{said_lines, sites_if, registers_in_fact}
+use Rattle.certificate_lines.specs.Said.{sites_if, registers_in_fact}
 use Rattle.certificate_lines.specs.Made.{lines_of_exit}
 use Rattle.certificate.proofs.SumMadeLemmas.{added, all_whole, details, may_add_exit, no_end_details}
 use Rattle.certificate.proofs.Certificate.add_exit.Goals as goal
@@ -10,7 +10,7 @@ use Rattle.certificate.proofs.Certificate.add_exit.Goals.{in-Ok, in-Err}
 
 pub keep_all-requires-clause-details : goal.keep_all-requires-clause-details
 keep_all-requires-clause-details g c =
-    details c.self.inside.version (said_lines c.self.inside.kept) (ExitIs c.args.entry c.args.offset (sites_if (is_of_sums c.self.inside.version) (fact_in_code c.args.fact.now)) (registers_in_fact (fact_in_code c.args.fact.now)))
+    details c.self.inside.version c.self.inside.kept (ExitIs c.args.entry c.args.offset (sites_if (is_of_sums c.self.inside.version) (fact_in_code c.args.fact.now)) (registers_in_fact (fact_in_code c.args.fact.now)))
     c.args.fact.now (may_add_exit _ c.args.self.now c.self.view_is c.args.entry c.args.offset c.args.fact.now c.requires)
 
 pub invariant_of-self : goal.invariant_of-self

@@ -1,7 +1,6 @@
 use Rattle.std.proofs.Common.{◌∙◌, ap, sym}
 use Rattle.std.proofs.lemmas.Option.{IfSome_then}
 use Rattle.certificate_lines.specs.Lines.{is_routine}
-use Rattle.certificate_lines.specs.Packed.{said_lines}
 use Rattle.certificate_lines.specs.Found.{begins}
 use Rattle.certificate_lines.specs.Reading.{is_listed, rank_in, sites_in, writes_in}
 use Rattle.certificate.proofs.SumNamedLemmas.{RoutineHere, routine_here, not_listed}
@@ -9,7 +8,7 @@ use Rattle.certificate.proofs.Certificate.routine.Goals as goal
 
 pub returns-then-is_at : goal.returns-then-is_at
 returns-then-is_at g c =
-    let h : RoutineHere (said_lines c.self.inside.kept) c.from-at.result c.index-place.result =
+    let h : RoutineHere c.self.inside.kept c.from-at.result c.index-place.result =
     routine_here c.self.inside.version c.self.inside.kept c.from-at.result c.index-place.result c.self.invariant c.index-place.ensures.small c.from-at.ensures (sym c.if-is_at.ensures) in
     record {
       listed = rw (← c.self.view_is, ← c.index-place.ensures.same) (c.first_routine.ensures.there ∙ (ap (begins is_routine) h.there ∙ sym (ap is_listed h.found)));

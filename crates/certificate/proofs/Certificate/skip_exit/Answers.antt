@@ -1,5 +1,4 @@
 use Rattle.std.proofs.Common.{◌≡◌, ◌+◌, ◌*◌, ℕ, true, false, sym, subst, drop, arith}
-use Rattle.certificate_lines.specs.Packed.{said_lines}
 use Rattle.certificate_lines.specs.Found.{begins_at}
 use Rattle.certificate_lines.proofs.SumReaderLemmas.{no_exit_left}
 use Rattle.certificate_lines.proofs.SumSkipLemmas.{exit_skipped, begun_within}
@@ -8,18 +7,18 @@ use Rattle.certificate.proofs.Certificate.skip_exit.Goals as goal
 pub returns-then-not-is_at-clause-none : goal.returns-then-not-is_at-clause-none
 returns-then-not-is_at-clause-none g c = λ done.
     let same : 8192 + 64 * c.index.result + c.args.offset ≡ 8192 + (64 * c.args.entry + c.args.offset) = omega (arith, c.index.ensures.same) in
-    let at : begins_at (8192 + (64 * c.args.entry + c.args.offset)) (drop c.args.line.now (said_lines c.self.inside.kept)) ≡ false =
-    subst (λ (p : ℕ). begins_at p (drop c.args.line.now (said_lines c.self.inside.kept)) ≡ false) same (sym c.if-not-is_at.ensures) in
+    let at : begins_at (8192 + (64 * c.args.entry + c.args.offset)) (from_head c.args.line.now c.self.inside.kept) ≡ false =
+    subst (λ (p : ℕ). begins_at p (from_head c.args.line.now c.self.inside.kept) ≡ false) same (sym c.if-not-is_at.ensures) in
     rw (← c.self.view_is) (no_exit_left c.self.inside.version c.self.inside.kept c.args.line.now c.args.entry c.args.offset c.self.invariant (rw (← c.self.view_is) at c.requires.stands) at)
 
 pub returns-clause-after : goal.returns-clause-after
-returns-clause-after g c = λ done. c.behind.ensures.after (begun_within (said_lines c.self.inside.kept) c.args.line.now _ (sym c.if-not-is_at.ensures))
+returns-clause-after g c = λ done. c.behind.ensures.after (begun_within c.self.inside.kept c.args.line.now _ (sym c.if-not-is_at.ensures))
 
 pub returns-clause-next : goal.returns-clause-next
 returns-clause-next g c = λ done.
     let same : 8192 + 64 * c.index.result + c.args.offset ≡ 8192 + (64 * c.args.entry + c.args.offset) = omega (arith, c.index.ensures.same) in
-    let at : begins_at (8192 + (64 * c.args.entry + c.args.offset)) (drop c.args.line.now (said_lines c.self.inside.kept)) ≡ true =
-    subst (λ (p : ℕ). begins_at p (drop c.args.line.now (said_lines c.self.inside.kept)) ≡ true) same (sym c.if-not-is_at.ensures) in
+    let at : begins_at (8192 + (64 * c.args.entry + c.args.offset)) (from_head c.args.line.now c.self.inside.kept) ≡ true =
+    subst (λ (p : ℕ). begins_at p (from_head c.args.line.now c.self.inside.kept) ≡ true) same (sym c.if-not-is_at.ensures) in
     let n = exit_skipped c.self.inside.version c.self.inside.kept c.args.line.now c.behind.result c.args.entry c.args.offset c.self.invariant
     (omega (arith, c.index.ensures.same, c.index.ensures.small)) c.requires.offset at c.behind.ensures.is in
     rw (← c.self.view_is) (n.0, n.1.next)
@@ -27,8 +26,8 @@ returns-clause-next g c = λ done.
 pub returns-clause-stands : goal.returns-clause-stands
 returns-clause-stands g c =
     let same : 8192 + 64 * c.index.result + c.args.offset ≡ 8192 + (64 * c.args.entry + c.args.offset) = omega (arith, c.index.ensures.same) in
-    let at : begins_at (8192 + (64 * c.args.entry + c.args.offset)) (drop c.args.line.now (said_lines c.self.inside.kept)) ≡ true =
-    subst (λ (p : ℕ). begins_at p (drop c.args.line.now (said_lines c.self.inside.kept)) ≡ true) same (sym c.if-not-is_at.ensures) in
+    let at : begins_at (8192 + (64 * c.args.entry + c.args.offset)) (from_head c.args.line.now c.self.inside.kept) ≡ true =
+    subst (λ (p : ℕ). begins_at p (from_head c.args.line.now c.self.inside.kept) ≡ true) same (sym c.if-not-is_at.ensures) in
     let n = exit_skipped c.self.inside.version c.self.inside.kept c.args.line.now c.behind.result c.args.entry c.args.offset c.self.invariant
     (omega (arith, c.index.ensures.same, c.index.ensures.small)) c.requires.offset at c.behind.ensures.is in
     rw (← c.self.view_is) n.1.stands

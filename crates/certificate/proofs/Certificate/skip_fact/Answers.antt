@@ -1,7 +1,6 @@
 use Rattle.std.proofs.Common.{◌≡◌, ◌+◌, true, false, sym, arith}
 use Rattle.certificate_lines.proofs.SumReaderLemmas.{none_left}
 use Rattle.certificate_lines.proofs.SumSkipLemmas.{fact_skipped, begun_within}
-use Rattle.certificate_lines.specs.Packed.{said_lines}
 use Rattle.certificate.proofs.Certificate.skip_fact.Goals as goal
 
 pub returns-then-not-is_at-clause-none : goal.returns-then-not-is_at-clause-none
@@ -10,7 +9,7 @@ returns-then-not-is_at-clause-none g c = λ done.
     (sym (rw c.index.ensures.same at c.if-not-is_at.ensures)))
 
 pub returns-clause-after : goal.returns-clause-after
-returns-clause-after g c = λ done. c.behind.ensures.after (begun_within (said_lines c.self.inside.kept) c.args.line.now (4096 + c.index.result) (sym c.if-not-is_at.ensures))
+returns-clause-after g c = λ done. c.behind.ensures.after (begun_within c.self.inside.kept c.args.line.now (4096 + c.index.result) (sym c.if-not-is_at.ensures))
 
 pub returns-clause-next : goal.returns-clause-next
 returns-clause-next g c = λ done.

@@ -1,7 +1,6 @@
 use Rattle.std.proofs.Common.{◌∙◌, map, ap}
 use Rattle.declaration.specs.DeclarationInCode.{meaning as declared}
 use Rattle.certificate_lines.specs.CertificateInCode.{Kept, claims}
-use Rattle.certificate_lines.specs.Packed.{said_lines}
 use Rattle.certificate_lines.specs.Made.{sited_by}
 use Rattle.certificate_lines.proofs.SumReaderLemmas.{formed}
 use Rattle.certificate.proofs.SumSitedLemmas.{whole_sited}
@@ -14,4 +13,4 @@ pub invariant_of-result : goal.invariant_of-result
 invariant_of-result g c =
     whole_sited c.args.self.now (declared c.args.declaration.now) c.put_sited.new.kept (rw (← c.self.view_is) c.self.invariant) c.requires
     ((rw c.new-kept.ensures at c.in-Ok.ensures) ∙
-    ap (λ (k : Kept). map (sited_by (declared c.args.declaration.now) (claims c.args.self.now)) (said_lines k.lines)) c.self.view_is)
+    ap (λ (k : Kept). map (sited_by (declared c.args.declaration.now) (claims c.args.self.now)) k.lines) c.self.view_is)

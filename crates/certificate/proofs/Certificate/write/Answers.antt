@@ -5,7 +5,6 @@ use Rattle.certificate_lines.specs.Spelling.{version_text}
 use Rattle.certificate_lines.specs.Spelled.{all_ended}
 use Rattle.certificate_lines.specs.Laws.{bytes_of}
 use Rattle.certificate_lines.specs.CertificateInCode.{meaning}
-use Rattle.certificate_lines.specs.Packed.{said_lines}
 use Rattle.certificate_lines.proofs.SumReaderLemmas.{formed}
 use Rattle.certificate.proofs.SumMadeLemmas.{text_ended}
 use Rattle.certificate.proofs.Certificate.write.Goals as goal
@@ -15,14 +14,14 @@ put_text-requires-clause-form g c = formed c.self.inside.version c.self.inside.k
 
 pub returns-in-Ok-clause-whole : goal.returns-in-Ok-clause-whole
 returns-in-Ok-clause-whole g c =
-    let e : ended (version_text c.self.inside.version) ++ all_ended c.self.inside.version (said_lines c.self.inside.kept) ++ ended (codes "end") ≡
+    let e : ended (version_text c.self.inside.version) ++ all_ended c.self.inside.version c.self.inside.kept ++ ended (codes "end") ≡
     bytes_of (meaning c.args.self.now) =
-    rw (← c.self.view_is) (text_ended c.self.inside.version (said_lines c.self.inside.kept)) in
+    rw (← c.self.view_is) (text_ended c.self.inside.version c.self.inside.kept) in
     rw e at c.in-Ok.ensures.whole
 
 pub returns-in-Err-clause-front : goal.returns-in-Err-clause-front
 returns-in-Err-clause-front g c =
-    let e : ended (version_text c.self.inside.version) ++ all_ended c.self.inside.version (said_lines c.self.inside.kept) ++ ended (codes "end") ≡
+    let e : ended (version_text c.self.inside.version) ++ all_ended c.self.inside.version c.self.inside.kept ++ ended (codes "end") ≡
     bytes_of (meaning c.args.self.now) =
-    rw (← c.self.view_is) (text_ended c.self.inside.version (said_lines c.self.inside.kept)) in
+    rw (← c.self.view_is) (text_ended c.self.inside.version c.self.inside.kept) in
     rw e at c.in-Err.ensures.front

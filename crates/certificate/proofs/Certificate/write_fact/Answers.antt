@@ -1,6 +1,5 @@
 use Rattle.std.proofs.Common.{◌∙◌, List, [], get_or, ap, sym}
 use Rattle.certificate_lines.specs.Lines.{Line}
-use Rattle.certificate_lines.specs.Packed.{said_lines}
 use Rattle.certificate_lines.proofs.SumReaderLemmas.{formed}
 use Rattle.certificate_lines.proofs.SumWrittenLemmas.{lines_end}
 use Rattle.certificate.proofs.Certificate.write_fact.Goals as goal
@@ -14,9 +13,9 @@ put_lines-requires-clause-form g c = formed c.self.inside.version c.self.inside.
 pub returns-in-Ok-clause-whole : goal.returns-in-Ok-clause-whole
 returns-in-Ok-clause-whole g c =
     rw (← c.self.view_is) (rw (c.end_of-end.ensures.is ∙ (c.fact_line-start.ensures ∙
-    ap (λ (x : List (List Line)). get_or x c.args.number []) (sym (lines_end (said_lines c.self.inside.kept) c.args.at)))) at c.in-Ok.ensures.whole)
+    ap (λ (x : List (List Line)). get_or x c.args.number []) (sym (lines_end c.self.inside.kept c.args.at)))) at c.in-Ok.ensures.whole)
 
 pub returns-in-Err-clause-front : goal.returns-in-Err-clause-front
 returns-in-Err-clause-front g c =
     rw (← c.self.view_is) (rw (c.end_of-end.ensures.is ∙ (c.fact_line-start.ensures ∙
-    ap (λ (x : List (List Line)). get_or x c.args.number []) (sym (lines_end (said_lines c.self.inside.kept) c.args.at)))) at c.in-Err.ensures.front)
+    ap (λ (x : List (List Line)). get_or x c.args.number []) (sym (lines_end c.self.inside.kept c.args.at)))) at c.in-Err.ensures.front)

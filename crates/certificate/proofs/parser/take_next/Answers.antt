@@ -3,7 +3,6 @@ use Rattle.certificate_lines.specs.declared.runs.Run.{Run}
 use Rattle.domain.specs.declared.chains.Step.{Step}
 use Rattle.certificate_lines.specs.Lines.{is_end}
 use Rattle.certificate_lines.specs.Found.{Keeps, unended}
-use Rattle.certificate_lines.specs.Packed.{said_at}
 use Rattle.certificate.proofs.SumParserLemmas.{next_kept, next_refused, wanting}
 use Rattle.certificate.proofs.parser.take_next.Goals as goal
 

@@ -1,6 +1,6 @@
 use Rattle.std.proofs.Common.{◌-◌, arith}
 use Rattle.std.proofs.lemmas.Bool.{false≢true}
-use Rattle.certificate.proofs.LengthLemmas.{feed_taken}
+use Rattle.certificate_lines.proofs.LengthLemmas.{feed_taken}
 use Rattle.certificate.proofs.SumParserLemmas.{added, passed}
 use Rattle.certificate.proofs.SumServedLemmas.{full}
 use Rattle.certificate.proofs.parser.Parser.add.Goals as goal

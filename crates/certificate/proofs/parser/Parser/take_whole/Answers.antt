@@ -4,7 +4,7 @@ use Rattle.certificate_lines.specs.declared.CertificateFault.TheVariants as faul
 use Rattle.certificate_lines.specs.Pieces.{most_bytes}
 use Rattle.certificate_lines.specs.LineFeeds.{NoFeed}
 use Rattle.certificate.specs.Parser.{Refuses}
-use Rattle.certificate.proofs.LengthLemmas.{feed_taken}
+use Rattle.certificate_lines.proofs.LengthLemmas.{feed_taken}
 use Rattle.certificate.proofs.SumParserLemmas.{then_seen, few_more, whole_line}
 use Rattle.certificate.proofs.SumServedLemmas.{full}
 use Rattle.certificate.proofs.parser.Parser.take_whole.Goals as goal

@@ -1,30 +1,30 @@
-use Rattle.std.proofs.Common.{map, refl}
-use Rattle.std.proofs.lemmas.List.{map_push}
-use Rattle.domain.specs.ChainsInCode.{step_of}
+use Rattle.std.proofs.Common.{◌∙◌, ap, refl, sym, arith}
+use Rattle.domain.specs.Chains.{Chain}
+use Rattle.domain.specs.ChainsInCode.{step_of, chain_of}
 use Rattle.certificate_lines.specs.FieldsLeft.{left}
-use Rattle.certificate_lines.proofs.SumFieldLemmas.{no_steps, step_more, steps_shorter, steps_end, none_kept}
+use Rattle.certificate_lines.proofs.SumFieldLemmas.{no_steps, step_more, steps_end, steps_full, Grown, chain_begun, chain_grown, chain_done}
 use Rattle.certificate_lines.proofs.fields.Fields.steps.Goals as goal
 
-pub loop-self-init : goal.loop-self-init
-loop-self-init c = rw c.requires (no_steps (left c.args.self.now))
+pub loop-_step-init : goal.loop-_step-init
+loop-_step-init c = chain_begun (left c.args.self.now) (chain_of c.args.chain.now) c.requires
 
-pub loop-self-preserved : goal.loop-self-preserved
-loop-self-preserved c =
-    rw (c.in-Ok.ensures.ok, map_push step_of c.loop-self.steps.items c.step-step.result)
-    (step_more (left c.args.self.now) (left c.loop-self.self) (left c.takes.new.self) (left c.step-step.new.self) (map step_of c.loop-self.steps.items) (step_of c.step-step.result)
-    c.loop-self.invariant (c.loop-self-test.ensures.taken refl) c.loop-self-test.ensures.only c.step-step.ensures.form c.step-step.ensures.read c.step-step.ensures.only)
+pub loop-_step-preserved : goal.loop-_step-preserved
+loop-_step-preserved c =
+    chain_grown (left c.args.self.now) (left c.loop-_step.self) (left c.takes.new.self) (left c.step.new.self) (chain_of c.args.chain.now) (chain_of c.loop-_step.chain) (chain_of c.push.new.self)
+    (step_of c.step.result) c.loop-_step._step c.loop-_step.invariant (c.if-not-takes.ensures.taken refl) c.step.ensures c.push.ensures
 
-pub loop-self-smaller : goal.loop-self-smaller
-loop-self-smaller c =
-    steps_shorter (left c.loop-self.self) (left c.takes.new.self) (left c.step-step.new.self) (step_of c.step-step.result) (c.loop-self-test.ensures.taken refl) c.step-step.ensures.read
+pub push-requires : goal.push-requires
+push-requires c = let n = c.loop-_step.invariant.count in omega (arith, n, c.loop-_step-test.true)
 
-pub returns-clause-only : goal.returns-clause-only
-returns-clause-only c = λ ps f e.
-    (steps_end (left c.args.self.now) (left c.loop-self.self) (left c.takes.new.self) (map step_of c.loop-self.steps.items) c.loop-self.invariant (c.loop-self-test.ensures.kept refl)
-    c.loop-self-test.ensures.only ps f.form e).1
+pub returns-then-not-takes : goal.returns-then-not-takes
+returns-then-not-takes c = λ ps rest f ends e.
+    chain_done (left c.takes.new.self) (chain_of c.args.chain.now) (chain_of c.loop-_step.chain) ps rest c.loop-_step.invariant.others
+    (steps_end (left c.args.self.now) (left c.loop-_step.self) (left c.takes.new.self) (chain_of c.loop-_step.chain).steps c.loop-_step.invariant.read (c.if-not-takes.ensures.kept refl)
+    c.if-not-takes.ensures.only ps rest f.form ends e)
 
-pub returns-then-is_empty-clause-only : goal.returns-then-is_empty-clause-only
-returns-then-is_empty-clause-only c = λ ps f e.
-    let p = steps_end (left c.args.self.now) (left c.loop-self.self) (left c.takes.new.self) (map step_of c.loop-self.steps.items) c.loop-self.invariant (c.loop-self-test.ensures.kept refl)
-    c.loop-self-test.ensures.only ps f.form e in
-    none_kept ps c.loop-self.steps.items f.some p.0 c.if-is_empty.ensures
+pub returns : goal.returns
+returns c = λ ps rest f ends e.
+    let n = c.loop-_step.invariant.count in
+    chain_done (left c.loop-_step.self) (chain_of c.args.chain.now) (chain_of c.loop-_step.chain) ps rest c.loop-_step.invariant.others
+    (steps_full (left c.args.self.now) (left c.loop-_step.self) (chain_of c.loop-_step.chain).steps c.loop-_step.invariant.read
+    (let z = c.loop-_step-test.false in omega (arith, n, z)) ps rest f.form f.few ends e)

@@ -1,12 +1,7 @@
-use Rattle.std.proofs.Common.{map}
-use Rattle.domain.specs.ChainsInCode.{step_of}
+use Rattle.domain.specs.ChainsInCode.{chain_of}
 use Rattle.certificate_lines.specs.FieldsLeft.{left}
-use Rattle.certificate_lines.proofs.RunLemmas.{how_long}
-use Rattle.certificate_lines.proofs.SumFieldLemmas.{StepsRead}
+use Rattle.certificate_lines.proofs.SumFieldLemmas.{Grown}
 use Rattle.certificate_lines.proofs.fields.Fields.steps.Given as goal
 
-abbrev pub invariant-loop-self : goal.invariant-loop-self
-invariant-loop-self l = StepsRead (left l.fn.self) (left l.self) (map step_of l.steps.items)
-
-abbrev pub decreases-loop-self : goal.decreases-loop-self
-decreases-loop-self l = how_long (left l.self)
+abbrev pub invariant-loop-_step : goal.invariant-loop-_step
+invariant-loop-_step l = Grown (left l.fn.self) (left l.self) (chain_of l.fn.chain) (chain_of l.chain) l._step

@@ -5,9 +5,9 @@ pub returns-in_default : goal.returns-in_default
 returns-in_default c = record {
   version = c.add_head.ensures.version;
   number = c.add_head.ensures.number;
-  lines = λ runs steps before t. record {
+  lines = λ sets before t. record {
     number = (let n = c.add_head.ensures.number in omega (arith, n, t.number));
-    others = c.add_head.ensures.lines runs steps before (record {
+    others = c.add_head.ensures.lines sets before (record {
       ended = t.others.ended;
       takes_details = t.others.takes_details;
       next_head = t.others.next_head;

@@ -2,7 +2,7 @@ use Rattle.std.proofs.Common.{refl, sym, ◌∙◌}
 use Rattle.certificate_lines.specs.FieldsLeft.{left}
 use Rattle.certificate_lines.specs.Said.{set_in}
 use Rattle.certificate_lines.proofs.RunLemmas.{dash_read, one_read, many_read}
-use Rattle.certificate_lines.proofs.fields.Fields.set.Goals as goal
+use Rattle.certificate_lines.proofs.fields.Fields.read_set.Goals as goal
 
 pub returns-then-takes : goal.returns-then-takes
 returns-then-takes c = λ s tail end ends e.

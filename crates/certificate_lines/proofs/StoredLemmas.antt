@@ -1,0 +1,72 @@
+-- Lines that are kept as their text.
+use Rattle.std.proofs.Common.{◌≡◌, ℕ, ◌+◌, ◌<◌, ◌≤◌, List, [], ◌∷◌, ◌++◌, length, get_or, refl, ap, ◌∙◌, sym, subst, arith, append_assoc, append-nil, length-append}
+use Rattle.std.specs.List.{slice_split}
+use Rattle.std.proofs.lemmas.List.Concat.{flat_map-append}
+use Rattle.std.proofs.lemmas.List.Splits.{length-slice_split}
+use Rattle.certificate_lines.specs.declared.Version.TheVariants.{Three}
+use Rattle.certificate_lines.specs.declared.store.Head.{Head}
+use Rattle.certificate_lines.specs.FieldSpelling.{ended}
+use Rattle.certificate_lines.specs.RisingLists.{Each}
+use Rattle.certificate_lines.specs.Pieces.{pieces}
+use Rattle.certificate_lines.specs.LineFeeds.{NoFeed}
+use Rattle.certificate_lines.specs.LineWords.{words_in}
+use Rattle.certificate_lines.specs.Lines.{Line}
+use Rattle.certificate_lines.specs.LineOf.{said_by}
+use Rattle.certificate_lines.specs.Spelling.{line_text}
+use Rattle.certificate_lines.specs.Spelled.{all_ended}
+use Rattle.certificate_lines.specs.Stored.{lines_by, lines_in, heads_from, heads_of, IsText, IsStored}
+use Rattle.certificate_lines.specs.Found.{IsLine}
+use Rattle.certificate_lines.proofs.TextLemmas.{seam, each_append}
+use Rattle.certificate_lines.proofs.LineOfLemmas.{split_at}
+use Rattle.certificate_lines.proofs.SumLineLemmas.{said_back}
+use Rattle.certificate_lines.proofs.SumTextLemmas.{feeds}
+use Rattle.certificate_lines.proofs.SumLengthLemmas.{line_feed}
+use Rattle.certificate_lines.proofs.SumFoundLemmas.{HeadAt, head_at, heads_more}
+
+-- A line, and those after it.
+first_by : (line : List ℕ) (n : ℕ) (ps : List (List ℕ)) → length ps ≡ n + 1 → lines_by (line ∷ ps) ≡ said_by Three (words_in line) ∷ lines_by ps
+first_by line n [] e = absurd (omega arith)
+first_by line n (p ∷ ps) e = refl
+
+first_in : (line rest : List ℕ) → NoFeed line → lines_in (ended line ++ rest) ≡ said_by Three (words_in line) ∷ lines_in rest
+unfolding lines_in
+first_in line rest h =
+    ap (λ (x : List ℕ). lines_by (pieces x)) (sym (seam line rest)) ∙
+    (ap lines_by (split_at (λ c. c == 10) line 10 rest (feeds line h) refl) ∙ first_by line _ (pieces rest) (length-slice_split (λ c. c == 10) rest))
+
+-- A text of lines is read as them.
+none_in : lines_in [] ≡ []
+unfolding lines_in
+none_in = refl
+
+pub lines_back : (ls : List Line) → Each (IsLine Three) ls → lines_in (all_ended Three ls) ≡ ls
+lines_back [] h = none_in
+lines_back (l ∷ ls) h =
+    first_in (line_text Three l) (all_ended Three ls) (line_feed Three l) ∙
+    (ap (λ (x : Line). x ∷ lines_in (all_ended Three ls)) (said_back Three l h.0.0 h.0.1) ∙ ap (λ (x : List Line). l ∷ x) (lines_back ls h.1))
+
+pub text_of : (ls : List Line) (bytes : List ℕ) → Each (IsLine Three) ls → bytes ≡ all_ended Three ls → IsText bytes
+text_of ls bytes form is =
+    let e : lines_in bytes ≡ ls = ap lines_in is ∙ lines_back ls form in
+    record { is = is ∙ ap (all_ended Three) (sym e); form = rw e form }
+
+pub stored : (ls : List Line) (bytes : List ℕ) (heads : List Head) → Each (IsLine Three) ls → bytes ≡ all_ended Three ls → heads ≡ heads_from 0 ls → IsStored bytes heads
+stored ls bytes heads form is at =
+    let e : lines_in bytes ≡ ls = ap lines_in is ∙ lines_back ls form in
+    record { text = text_of ls bytes form is; heads = at ∙ ap (heads_from 0) (sym e) }
+
+pub read_back : (ls : List Line) (bytes : List ℕ) → Each (IsLine Three) ls → bytes ≡ all_ended Three ls → lines_in bytes ≡ ls
+read_back ls bytes form is = ap lines_in is ∙ lines_back ls form
+
+pub no_lines : IsStored [] []
+no_lines = stored [] [] [] tt refl refl
+
+pub both_ended : (ls ms : List Line) → all_ended Three (ls ++ ms) ≡ all_ended Three ls ++ all_ended Three ms
+both_ended ls ms = flat_map-append (λ l. ended (line_text Three l)) ls ms
+
+-- What is kept of a head.
+pub kept_at : (bytes : List ℕ) (heads : List Head) → IsStored bytes heads → (i : ℕ) (h : Head) → i < length heads → h ≡ get_or heads i h → HeadAt 0 i (lines_in bytes) h
+kept_at bytes heads s i h few is = head_at 0 i (lines_in bytes) h (subst (λ (x : List Head). i < length x) s.heads few) (subst (λ (x : List Head). h ≡ get_or x i h) s.heads is)
+
+pub kept_count : (bytes : List ℕ) (heads : List Head) → IsStored bytes heads → (i : ℕ) → length heads ≤ i → length (heads_from 0 (lines_in bytes)) ≤ i
+kept_count bytes heads s i few = subst (λ (x : List Head). length x ≤ i) s.heads few

@@ -367,7 +367,8 @@ is_routine_at v (ChainIs d) rest e form small at = absurd (false≢true at)
 
 pub record RoutineHere (ls : List Line) (i e : ℕ) : Type 0 where
   pub line : RoutineLine
-  pub there : from_head i ls ≡ RoutineIs line ∷ drop (i + 1) ls
+  pub rest : List Line
+  pub there : from_head i ls ≡ RoutineIs line ∷ rest
   pub found : routine_at (ls ++ End ∷ []) e ≡ Some line
 
 pub routine_here : (v : Version) (k : List Line) (i e : ℕ) → IsWhole v k → e < 4096 → from_head i k ≡ from_place e k → begins_at e (from_head i k) ≡ true →
@@ -375,11 +376,12 @@ pub routine_here : (v : Version) (k : List Line) (i e : ℕ) → IsWhole v k →
 routine_here v k i e w small from is =
     let ls : List Line = k in
     let n : NextLine ls i = next_line ls i e is in
-    let form = line_formed v k i n.line (drop (i + 1) ls) w n.there in
-    let r = is_routine_at v n.line (drop (i + 1) ls) e form.0 small (rw n.there at is) in
+    let form = line_formed v k i n.line n.rest w n.there in
+    let r = is_routine_at v n.line n.rest e form.0 small (rw n.there at is) in
     record {
       line = r.0;
-      there = n.there ∙ ap (λ (l : Line). l ∷ drop (i + 1) ls) r.1;
+      rest = n.rest;
+      there = n.there ∙ ap (λ (l : Line). l ∷ n.rest) r.1;
       found = claim_is ls i e from ∙ (ap (λ (x : List Line). routine_at x e) n.there ∙ r.2);
     }
 

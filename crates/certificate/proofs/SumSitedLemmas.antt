@@ -16,16 +16,16 @@ use Rattle.certificate_lines.specs.RisingLists.{Each, EndsBefore}
 use Rattle.certificate_lines.specs.Lines.{Line, RoutineIs, FactIs, ExitIs, CellIs, SumIs, ChainIs, End, is_end, is_detail, has_details, is_routine, is_cell, is_sum, is_chain, is_of_sums}
 use Rattle.certificate_lines.specs.Order.{may_stand, heads, details_of_last, place_of_head, detail_is_before, may_follow, follows_newest, comes_in_order, how_many, has_room}
 use Rattle.certificate_lines.specs.LineOf.{has_form, has_registers, is_relation}
-use Rattle.certificate_lines.specs.Laws.{MqFits, RegistersFit, LineFits}
+use Rattle.certificate_lines.specs.Laws.{SitesFit, MqFits, RegistersFit, LineFits}
 use Rattle.certificate_lines.specs.Certificate.{Certificate}
 use Rattle.certificate_lines.specs.Reading.{routine_at, is_listed, sites_in}
 use Rattle.certificate_lines.specs.Found.{IsLine, AreInOrder, newest_first, IsWhole}
 use Rattle.certificate_lines.specs.Said.{sited_line, IsNumbered}
 use Rattle.certificate_lines.specs.Made.{sites_by, sited_by}
-use Rattle.certificate_lines.specs.declared.runs.Run.{Run}
-use Rattle.domain.specs.declared.chains.Step.{Step}
-use Rattle.certificate_lines.specs.declared.packed.PackedLine.{PackedLine}
-use Rattle.certificate_lines.specs.declared.packed.PackedLine.TheVariants as packed
+use Rattle.certificate_lines.specs.Spelling.{line_text}
+use Rattle.certificate_lines.specs.Spelled.{all_ended}
+use Rattle.certificate_lines.specs.Line.{Spells}
+use Rattle.certificate_lines.specs.Stored.{lines_in, IsText}
 use Rattle.certificate_lines.specs.CertificateInCode.{Kept, claims}
 use Rattle.certificate.proofs.SumMadeLemmas.{mq_one}
 use Rattle.certificate_lines.proofs.SumWholeLemmas.{whole}
@@ -304,25 +304,55 @@ module _ (sites : Line → Words) where
       whole Three new (rw back (order_three v e ends (newest_first [] k) w.order))
       (rw back (any_same is_end (newest_first [] k) same_end ∙ w.no_end))
 
--- An exit's offset has at most two digits.
-pub numbered : (v : Version) (runs : List Run) (steps : List Step) (l : PackedLine) → IsLine v (said_at runs steps l) → IsNumbered l
-numbered v runs steps (packed.Exit e) h = has_place v (said_at runs steps (packed.Exit e)) h.0
-numbered v runs steps (packed.Routine r) h = tt
-numbered v runs steps (packed.Fact f) h = tt
-numbered v runs steps (packed.Cell a n) h = tt
-numbered v runs steps (packed.Sum s n) h = tt
-numbered v runs steps (packed.Chain c) h = tt
-numbered v runs steps packed.End h = tt
+-- What versions 1 and 2 say, version 3 can say, too.
+none_end : (v : Version) (s : Words) → is_of_sums v ≡ false → SitesFit v s → EndsBefore 4096 s
+none_end One s e h = λ x past. ap (λ (f : Words). f x) h
+none_end Two s e h = λ x past. ap (λ (f : Words). f x) h
+none_end Three s e h = absurd (true≢false e)
 
--- Lines are laid one after another.
-pub sited_next : (f : Line → Line) (kept new all ls : List Line) (at : ℕ) (l m : Line) → drop at ls ≡ l ∷ drop (at + 1) ls → m ≡ f l → new ≡ kept ++ m ∷ [] →
-    kept ++ map f (drop at ls) ≡ all → new ++ map f (drop (at + 1) ls) ≡ all
-sited_next f kept new all ls at l m d e n h =
-    ap (λ (x : List Line). x ++ map f (drop (at + 1) ls)) n ∙ (append_assoc kept (m ∷ []) (map f (drop (at + 1) ls)) ∙
-    (ap (λ (x : Line). kept ++ (x ∷ map f (drop (at + 1) ls))) e ∙ (ap (λ (x : List Line). kept ++ map f x) (sym d) ∙ h)))
+line_of_three : (v : Version) (l : Line) → is_of_sums v ≡ false → IsLine v l → IsLine Three l
+line_of_three v (FactIs a t r o) e h = line_three v t (FactIs a t r o) e (none_end v t e h.1.0) h
+line_of_three v (ExitIs x o t r) e h = line_three v t (ExitIs x o t r) e (none_end v t e h.1.0) h
+line_of_three v (RoutineIs r) e h = h
+line_of_three v (CellIs c) e h = h
+line_of_three v (SumIs r) e h = line_three v nothing (SumIs r) e (λ x past. refl) h
+line_of_three v (ChainIs c) e h = line_three v nothing (ChainIs c) e (λ x past. refl) h
+line_of_three v End e h = h
 
-pub sited_all : (f : Line → Line) (kept all ls : List Line) (n : ℕ) → length ls ≤ n → kept ++ map f (drop n ls) ≡ all → kept ≡ all
-sited_all f kept all ls n past h = sym (append-nil kept) ∙ (ap (λ (x : List Line). kept ++ map f x) (sym (drop_all n ls past)) ∙ h)
+pub three : (v : Version) (l : Line) → IsLine v l → IsLine Three l
+three One l h = line_of_three One l refl h
+three Two l h = line_of_three Two l refl h
+three Three l h = h
+
+pub spelled_three : (v : Version) (l : Line) → IsLine v l → (bytes : List ℕ) → bytes ≡ line_text Three l → Spells Three l bytes
+spelled_three v l h bytes e = let t = three v l h in record { form = t.0; fits = t.1; text = e }
+
+pub each_three : (v : Version) (ls : List Line) → Each (IsLine v) ls → Each (IsLine Three) ls
+each_three v [] h = tt
+each_three v (l ∷ ls) h = (three v l h.0, each_three v ls h.1)
+
+-- Lines are added one after another.
+pub record Sited (f : Line → Line) (kept now all : List Line) (rest : List ℕ) : Type 0 where
+  pub left : List Line
+  pub is : rest ≡ all_ended Three left
+  pub form : Each (IsLine Three) left
+  pub done : now ++ map f left ≡ kept ++ map f all
+
+pub none_sited : (f : Line → Line) (kept all : List Line) (text : List ℕ) → IsText text → lines_in text ≡ all → Sited f kept kept all text
+none_sited f kept all text t e = record { left = all; is = t.is ∙ ap (all_ended Three) e; form = subst (Each (IsLine Three)) e t.form; done = refl }
+
+pub one_sited : (f : Line → Line) (kept now new all : List Line) (rest after : List ℕ) (w : Sited f kept now all rest) (l m : Line) (ls : List Line) → w.left ≡ l ∷ ls →
+    after ≡ all_ended Three ls → m ≡ f l → new ≡ now ++ m ∷ [] → Sited f kept new all after
+one_sited f kept now new all rest after w l m ls e g h more = record {
+  left = ls;
+  is = g;
+  form = (rw e at w.form).1;
+  done = ap (λ (x : List Line). x ++ map f ls) more ∙ (append_assoc now (m ∷ []) (map f ls) ∙
+      (ap (λ (x : Line). now ++ x ∷ map f ls) h ∙ (ap (λ (x : List Line). now ++ map f x) (sym e) ∙ w.done)));
+}
+
+pub all_sited : (f : Line → Line) (kept now all : List Line) (rest : List ℕ) (w : Sited f kept now all rest) → w.left ≡ [] → now ≡ kept ++ map f all
+all_sited f kept now all rest w none = sym (append-nil now) ∙ (ap (λ (x : List Line). now ++ map f x) (sym none) ∙ w.done)
 
 -- A certificate with its sites.
 pub claimed_sites : (k : Kept) → IsWhole k.version k.lines → (e : ℕ) → EndsBefore 4096 ((claims k).sites e)

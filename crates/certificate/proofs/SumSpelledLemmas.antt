@@ -1,29 +1,63 @@
 -- Lines that are written one after another.
--- Lines that are written one after another, up to the one at a place n.
-first_in_range : (ls : List Line) (i n : ℕ) (l : Line) → from_head i ls ≡ l ∷ drop (i + 1) ls → i < n → slice_range ls i n ≡ l ∷ slice_range ls (i + 1) n
-first_in_range ls i n l at more = let k : n - i ≡ suc (n - (i + 1)) = omega arith in ap (take (n - i)) at ∙ rw k refl
+use Rattle.std.proofs.Common.{◌≡◌, ℕ, ◌+◌, ◌≤◌, false, List, [], ◌∷◌, ◌++◌, length, Option, refl, ap, ◌∙◌, sym, subst, arith, append_assoc, append-nil, length-append}
+use Rattle.std.proofs.lemmas.List.{take-append-le}
+use Rattle.std.specs.Io.KnownBytes.{Appends}
+use Rattle.std.proofs.KnownBytes.{Appends-nil, Appends-trans}
+use Rattle.streams.specs.Bytes.{AppendsFront}
+use Rattle.streams.proofs.BytesLemmas.{front_after}
+use Rattle.certificate_lines.specs.declared.Version.{Version}
+use Rattle.certificate_lines.specs.declared.Version.TheVariants.{Three}
+use Rattle.certificate_lines.specs.FieldSpelling.{ended}
+use Rattle.certificate_lines.specs.RisingLists.{Each}
+use Rattle.certificate_lines.specs.Lines.{Line}
+use Rattle.certificate_lines.specs.Spelling.{line_text}
+use Rattle.certificate_lines.specs.Spelled.{all_ended}
+use Rattle.certificate_lines.specs.Stored.{lines_in, IsText}
+use Rattle.certificate_lines.specs.Found.{IsLine}
 
-pub line_next : (v : Version) (ls : List Line) (i n : ℕ) (l : Line) (wrote all : List ℕ) → from_head i ls ≡ l ∷ drop (i + 1) ls → i < n →
-    wrote ++ all_ended v (slice_range ls i n) ≡ all → (wrote ++ ended (line_text v l)) ++ all_ended v (slice_range ls (i + 1) n) ≡ all
-line_next v ls i n l wrote all at more so =
-    append_assoc wrote (ended (line_text v l)) (all_ended v (slice_range ls (i + 1) n)) ∙
-    (ap (λ (x : List Line). wrote ++ all_ended v x) (sym (first_in_range ls i n l at more)) ∙ so)
+pub front_more : (a b : Option (List ℕ)) (first second : List ℕ) → AppendsFront a b first → AppendsFront a b (first ++ second)
+front_more a b first second front = record {
+  count = front.count;
+  within = let e = length-append first second in let f = front.within in omega (arith, e, f);
+  out = (let f : front.count ≤ length first = (let g = front.within in omega (arith, g)) in rw (take-append-le front.count first second f) front.out);
+}
 
-pub line_cut : (a b c : Option (List ℕ)) (v : Version) (ls : List Line) (i n : ℕ) (l : Line) (wrote all piece : List ℕ) → from_head i ls ≡ l ∷ drop (i + 1) ls → i < n →
-    wrote ++ all_ended v (slice_range ls i n) ≡ all → Appends a b wrote → piece ≡ ended (line_text v l) → AppendsFront b c piece → AppendsFront a c all
-line_cut a b c v ls i n l wrote all piece at more so whole same front =
-    subst (λ (x : List ℕ). AppendsFront a c x) (line_next v ls i n l wrote all at more so)
-    (front_more a c (wrote ++ ended (line_text v l)) (all_ended v (slice_range ls (i + 1) n)) (front_after a b c wrote (ended (line_text v l)) whole (rw same at front)))
+-- Some of the lines were written, and the others are left.
+pub record Written (v : Version) (old now : Option (List ℕ)) (rest : List ℕ) (all : List Line) : Type 0 where
+  pub left : List Line
+  pub wrote : List ℕ
+  pub is : rest ≡ all_ended Three left
+  pub form : Each (IsLine Three) left
+  pub told : Each (IsLine v) left
+  pub whole : Appends old now wrote
+  pub done : wrote ++ all_ended v left ≡ all_ended v all
 
-pub lines_done : (v : Version) (ls : List Line) (i n : ℕ) (wrote all : List ℕ) → n ≤ i → wrote ++ all_ended v (slice_range ls i n) ≡ all → wrote ≡ all
-lines_done v ls i n wrote all h so = let k : n - i ≡ 0 = omega arith in sym (append-nil wrote) ∙ (rw k at so)
+pub none_written : (v : Version) (old : Option (List ℕ)) (text : List ℕ) → IsText text → Each (IsLine v) (lines_in text) → Written v old old text (lines_in text)
+none_written v old text t told = record { left = lines_in text; wrote = []; is = t.is; form = t.form; told = told; whole = Appends-nil old; done = refl }
 
-pub all_lines : (ls : List Line) (n : ℕ) → n ≡ length ls → slice_range ls 0 n ≡ ls
-all_lines ls n e = let k : n - 0 ≡ n = omega arith in rw k (take_all n ls (omega (arith, e)))
+-- A line more.
+pub one_written : (v : Version) (old now next : Option (List ℕ)) (rest after : List ℕ) (all : List Line) (w : Written v old now rest all) (l : Line) (ls : List Line) → w.left ≡ l ∷ ls →
+    after ≡ all_ended Three ls → Appends now next (ended (line_text v l)) → Written v old next after all
+one_written v old now next rest after all w l ls e f more = record {
+  left = ls;
+  wrote = w.wrote ++ ended (line_text v l);
+  is = f;
+  form = (rw e at w.form).1;
+  told = (rw e at w.told).1;
+  whole = Appends-trans old now next w.wrote (ended (line_text v l)) w.whole more;
+  done = append_assoc w.wrote (ended (line_text v l)) (all_ended v ls) ∙ (ap (λ (x : List Line). w.wrote ++ all_ended v x) (sym e) ∙ w.done);
+}
 
--- What holds of each line holds of the one at a place.
-pub each_line : (P : Line → Type 0) (ls : List Line) (i : ℕ) (l : Line) (rest : List Line) → Each P ls → from_head i ls ≡ l ∷ rest → P l
-each_line P [] zero l rest h e = absurd (cc)
-each_line P [] (suc i) l rest h e = absurd (let z : [] ≡ l ∷ rest = sym (drop_all (suc i) [] (omega arith)) ∙ e in cc)
-each_line P (x ∷ ls) zero l rest h e = let z : x ≡ l = cc in subst P z h.0
-each_line P (x ∷ ls) (suc i) l rest h e = each_line P ls i l rest h.1 e
+-- Some of a line was written.
+pub cut_off : (v : Version) (old now next : Option (List ℕ)) (rest : List ℕ) (all : List Line) (w : Written v old now rest all) (l : Line) (ls : List Line) → w.left ≡ l ∷ ls →
+    AppendsFront now next (ended (line_text v l)) → AppendsFront old next (all_ended v all)
+cut_off v old now next rest all w l ls e front =
+    let done : (w.wrote ++ ended (line_text v l)) ++ all_ended v ls ≡ all_ended v all =
+    append_assoc w.wrote (ended (line_text v l)) (all_ended v ls) ∙ (ap (λ (x : List Line). w.wrote ++ all_ended v x) (sym e) ∙ w.done) in
+    subst (λ (x : List ℕ). AppendsFront old next x) done
+    (front_more old next (w.wrote ++ ended (line_text v l)) (all_ended v ls) (front_after old now next w.wrote (ended (line_text v l)) w.whole front))
+
+pub all_written : (v : Version) (old now : Option (List ℕ)) (rest : List ℕ) (all : List Line) (w : Written v old now rest all) → w.left ≡ [] → Appends old now (all_ended v all)
+all_written v old now rest all w none =
+    let e : w.wrote ≡ all_ended v all = sym (append-nil w.wrote) ∙ (ap (λ (x : List Line). w.wrote ++ all_ended v x) (sym none) ∙ w.done) in
+    subst (λ (x : List ℕ). Appends old now x) e w.whole

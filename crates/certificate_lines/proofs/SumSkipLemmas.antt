@@ -1,5 +1,5 @@
 -- Lines that are passed over, and the shape of what they say.
-use Rattle.std.proofs.Common.{◌≡◌, ◌⊎◌, ℕ, ◌+◌, ◌*◌, ◌<◌, ◌≤◌, ◌&&◌, Bool, true, false, List, [], ◌∷◌, length, drop, refl, sym, ap, ◌∙◌, inl, inr, arith}
+use Rattle.std.proofs.Common.{◌≡◌, ◌⊎◌, ℕ, ◌+◌, ◌*◌, ◌<◌, ◌≤◌, ◌&&◌, Bool, true, false, List, [], ◌∷◌, length, drop, refl, sym, ap, subst, ◌∙◌, inl, inr, arith}
 use Rattle.std.specs.Prelude.{nat_le, nat_lt}
 use Rattle.std.specs.List.{list_all}
 use Rattle.std.proofs.lemmas.Bool.{true≢false, false≢true, cases_Bool, cases_lt, and_parts, leb-true}
@@ -12,7 +12,9 @@ use Rattle.certificate_lines.specs.LineOf.{is_relation, is_step}
 use Rattle.wordset.specs.Words.{some_below}
 use Rattle.certificate_lines.specs.Reading.{relations_under, chains_under, fact_said, all_offsets}
 use Rattle.certificate_lines.specs.CertificateInCode.{HasShape}
-use Rattle.certificate_lines.specs.Found.{Follow, IsWhole, from_head, begins_at, begins, FitUnder, IsSaid}
+use Rattle.certificate_lines.specs.Found.{Follow, IsWhole, from_head, begins_at, begins, first_with_details, FitUnder, IsSaid}
+use Rattle.certificate_lines.specs.Stored.{others}
+use Rattle.certificate_lines.proofs.SumDetailLemmas.{front_details, front_fits, said_front}
 use Rattle.certificate_lines.proofs.SumWholeLemmas.{follows}
 use Rattle.certificate_lines.proofs.SumReaderLemmas.{follow_from, next_line, fit_under, fact_next, FactNext, exit_next, ExitNext, has_said}
 
@@ -30,7 +32,7 @@ some_said : (ls : List Line) → begins has_details ls ≡ true → (f : Fact) �
 some_said [] h = absurd (false≢true h)
 some_said (l ∷ ls) h = said_fact l ls h
 
-details_there : (v : Version) (k : List Line) (i p : ℕ) → IsWhole v k → 4096 ≤ p → p < 270336 → begins_at p (from_head i k) ≡ true → begins has_details (from_head i k) ≡ true
+pub details_there : (v : Version) (k : List Line) (i p : ℕ) → IsWhole v k → 4096 ≤ p → p < 270336 → begins_at p (from_head i k) ≡ true → begins has_details (from_head i k) ≡ true
 details_there v k i p w low high h = elim (cases_Bool (begins has_details (from_head i k))) [ inl t ↦ t | inr f ↦ has_said v k i p w low high h f ]
 
 pub fact_skipped : (v : Version) (k : List Line) (i end a : ℕ) → IsWhole v k → a < 4096 → begins_at (4096 + a) (from_head i k) ≡ true → end ≡ i + 1 → (f : Fact) × FactNext k i end a f
@@ -92,3 +94,31 @@ has_shape_there v k i p f w h is =
     let n = next_line k i p h in
     let g = follow_from v [] k i (follows v [] k w.order).1 n.line n.rest n.there in
     shape_said v _ n.line n.rest f g.1.0 (fit_under v k i n.line n.rest w n.there) (rw n.there at is)
+
+-- ---- the lines of a head and its details
+
+first_begins : (test : Line → Bool) (ls : List Line) → begins test (first_with_details ls) ≡ begins test ls
+first_begins test [] = refl
+first_begins test (l ∷ ls) = refl
+
+pub begins_there : (test : Line → Bool) (ls lines : List Line) → lines ≡ first_with_details ls → begins test lines ≡ begins test ls
+begins_there test ls lines is = ap (begins test) is ∙ first_begins test ls
+
+pub told_there : (v : Version) (k : List Line) (i p : ℕ) (lines : List Line) (b : Bool) → IsWhole v k → 4096 ≤ p → p < 270336 → begins_at p (from_head i k) ≡ true →
+    lines ≡ first_with_details (from_head i k) → b ≡ begins has_details lines → b ≡ true
+told_there v k i p lines b w low high h is e = e ∙ (begins_there has_details (from_head i k) lines is ∙ details_there v k i p w low high h)
+
+told_details : (ls : List Line) → Each (λ l. is_detail l ≡ true) (others (first_with_details ls))
+told_details [] = tt
+told_details (l ∷ ls) = front_details ls
+
+pub details_told : (ls lines : List Line) → lines ≡ first_with_details ls → Each (λ l. is_detail l ≡ true) (others lines)
+details_told ls lines is = subst (λ (x : List Line). Each (λ l. is_detail l ≡ true) (others x)) (sym is) (told_details ls)
+
+pub fits_told : (v : Version) (k : List Line) (i p : ℕ) (lines : List Line) → IsWhole v k → begins_at p (from_head i k) ≡ true → lines ≡ first_with_details (from_head i k) → FitUnder (others lines)
+fits_told v k i p lines w h is =
+    let n = next_line k i p h in
+    subst (λ (x : List Line). FitUnder (others x)) (sym (is ∙ ap first_with_details n.there)) (front_fits n.rest (fit_under v k i n.line n.rest w n.there))
+
+pub said_told : (ls lines : List Line) (f : Fact) → lines ≡ first_with_details ls → IsSaid lines f → IsSaid ls f
+said_told ls lines f is h = said_front ls f (subst (λ (x : List Line). IsSaid x f) is h)

@@ -4,6 +4,7 @@ ghost use Rattle.std.specs.Prelude.{◌≡◌, ◌+◌, ◌<◌, ◌≤◌, ◌^
 ghost use Rattle.certificate_lines.specs.Lines.{Line as SaidLine, is_detail};
 ghost use Rattle.certificate_lines.specs.Order.{may_stand, place_of_head, comes_in_order, has_room, may_be_level, heads, follows_newest};
 ghost use Rattle.certificate_lines.specs.Progress.{Tracks, TracksOthers, Fits, Takes};
+ghost use Rattle.certificate_lines.specs.Line.{Spells};
 ghost use Rattle.certificate_lines.specs.Said.{line_said, IsNumbered};
 
 use crate::line::checked_line;
@@ -164,6 +165,7 @@ impl Progress {
         requires number { self.old.number < 2 ^ 32 }
         ensures version { self.new.version ≡ self.old.version }
         ensures number { self.new.number ≤ self.old.number + 1 }
+        ensures read { IfOk result (λ said. Spells self.old.version (line_said said sets.new) line.now) }
         ensures text { IfOk result (λ said. text.new.bytes.items ≡ line.now) }
         ensures lines { (before : List SaidLine) → Tracks self.old before →
             Takes self.old.version before line.now self.new sets.new result }

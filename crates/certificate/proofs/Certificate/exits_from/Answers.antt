@@ -6,7 +6,7 @@ use Rattle.certificate.proofs.Certificate.exits_from.Goals as goal
 pub returns : goal.returns
 returns g c =
     let same : 8192 + 64 * c.index.result + c.args.offset ≡ 8192 + (64 * c.args.entry + c.args.offset) = omega (arith, c.index.ensures.same) in
-    let e : drop c.from.result c.self.inside.kept ≡ from_place (8192 + (64 * c.args.entry + c.args.offset)) c.self.inside.kept =
-    subst (λ (p : ℕ). drop c.from.result c.self.inside.kept ≡ from_place p c.self.inside.kept) same c.from.ensures in
+    let e : from_head c.from.result c.self.inside.kept ≡ from_place (8192 + (64 * c.args.entry + c.args.offset)) c.self.inside.kept =
+    subst (λ (p : ℕ). from_head c.from.result c.self.inside.kept ≡ from_place p c.self.inside.kept) same c.from.ensures in
     let b = exits_begin c.self.inside.kept c.from.result c.args.entry c.args.offset (omega (arith, c.index.ensures.same, c.index.ensures.small, c.requires)) e in
     rw (← c.self.view_is) (record { all = b.all; stands = b.stands })

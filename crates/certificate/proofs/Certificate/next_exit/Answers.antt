@@ -1,39 +1,55 @@
-use Rattle.std.proofs.Common.{◌≡◌, ◌+◌, ◌*◌, true, false, ℕ, sym, subst, drop, arith}
-use Rattle.certificate_lines.specs.Found.{begins_at}
-use Rattle.certificate_lines.proofs.SumReaderLemmas.{fit_next, exit_next, has_said, no_exit_left}
-use Rattle.certificate_lines.proofs.SumSkipLemmas.{has_shape_there}
+use Rattle.std.proofs.Common.{◌≡◌, ◌+◌, ◌*◌, ℕ, true, false, refl, sym, subst, arith}
+use Rattle.certificate_lines.specs.Found.{from_head, begins_at}
+use Rattle.certificate_lines.proofs.SumReaderLemmas.{no_exit_left, exit_next}
+use Rattle.certificate_lines.proofs.SumSkipLemmas.{exit_skipped, has_shape_there, told_there, details_told, fits_told, said_told, details_there}
 use Rattle.certificate.proofs.Certificate.next_exit.Goals as goal
 
 pub returns-then-not-is_at-clause-none : goal.returns-then-not-is_at-clause-none
 returns-then-not-is_at-clause-none g c = λ done.
     let same : 8192 + 64 * c.index.result + c.args.offset ≡ 8192 + (64 * c.args.entry + c.args.offset) = omega (arith, c.index.ensures.same) in
     let at : begins_at (8192 + (64 * c.args.entry + c.args.offset)) (from_head c.args.line.now c.self.inside.kept) ≡ false =
-    subst (λ (p : ℕ). begins_at p (from_head c.args.line.now c.self.inside.kept) ≡ false) same (sym c.if-not-is_at.ensures) in
+    subst (λ (p : ℕ). begins_at p (from_head c.args.line.now c.self.inside.kept) ≡ false) same (sym c.if-not-is_at.ensures.at) in
     rw (← c.self.view_is) (no_exit_left c.self.inside.version c.self.inside.kept c.args.line.now c.args.entry c.args.offset c.self.invariant (rw (← c.self.view_is) at c.requires.stands) at)
 
-pub first_said-requires : goal.first_said-requires
-first_said-requires g c = record { fit = fit_next c.self.inside.version c.self.inside.kept c.args.line.now _ c.self.invariant (sym c.if-not-is_at.ensures) }
+pub put_fact-requires-clause-text : goal.put_fact-requires-clause-text
+put_fact-requires-clause-text g c = c.text_of.ensures.text
 
-pub returns-in-Some-clause-next : goal.returns-in-Some-clause-next
-returns-in-Some-clause-next g c = λ done.
+pub put_fact-requires-clause-details : goal.put_fact-requires-clause-details
+put_fact-requires-clause-details g c = details_told _ _ c.text_of.ensures.lines
+
+pub put_fact-requires-clause-room : goal.put_fact-requires-clause-room
+put_fact-requires-clause-room g c =
+    fits_told c.self.inside.version c.self.inside.kept c.args.line.now _ _ c.self.invariant (sym c.if-not-is_at.ensures.at) c.text_of.ensures.lines
+
+pub overflow_add-line : goal.overflow_add-line
+overflow_add-line g c = let z = c.if-not-is_at.ensures.small refl in omega (arith, z)
+
+pub returns-clause-next : goal.returns-clause-next
+returns-clause-next g c = λ done.
     let same : 8192 + 64 * c.index.result + c.args.offset ≡ 8192 + (64 * c.args.entry + c.args.offset) = omega (arith, c.index.ensures.same) in
     let at : begins_at (8192 + (64 * c.args.entry + c.args.offset)) (from_head c.args.line.now c.self.inside.kept) ≡ true =
-    subst (λ (p : ℕ). begins_at p (from_head c.args.line.now c.self.inside.kept) ≡ true) same (sym c.if-not-is_at.ensures) in
-    rw (← c.self.view_is) ((exit_next c.self.inside.version c.self.inside.kept c.args.line.now c.in-Some.end c.args.entry c.args.offset _ c.self.invariant
-    (omega (arith, c.index.ensures.same, c.index.ensures.small)) c.requires.offset at (sym c.in-Some.ensures.there) c.in-Some.ensures.says c.in-Some.ensures.end).next)
+    subst (λ (p : ℕ). begins_at p (from_head c.args.line.now c.self.inside.kept) ≡ true) same (sym c.if-not-is_at.ensures.at) in
+    let there : c.put_fact-_is_there.result ≡ true =
+    told_there c.self.inside.version c.self.inside.kept c.args.line.now _ _ _ c.self.invariant (omega arith) (omega (arith, c.index.ensures.small, c.requires.offset))
+    (sym c.if-not-is_at.ensures.at) c.text_of.ensures.lines c.put_fact-_is_there.ensures.there in
+    rw (← c.self.view_is) ((exit_next c.self.inside.version c.self.inside.kept c.args.line.now (c.args.line.now + 1) c.args.entry c.args.offset _ c.self.invariant
+    (omega (arith, c.index.ensures.same, c.index.ensures.small)) c.requires.offset at
+    (details_there c.self.inside.version c.self.inside.kept c.args.line.now _ c.self.invariant (omega arith) (omega (arith, c.index.ensures.same, c.index.ensures.small, c.requires.offset)) at)
+    (said_told _ _ _ c.text_of.ensures.lines (c.put_fact-_is_there.ensures.says there)) refl).next)
 
-pub returns-in-Some-clause-stands : goal.returns-in-Some-clause-stands
-returns-in-Some-clause-stands g c =
+pub returns-clause-stands : goal.returns-clause-stands
+returns-clause-stands g c =
     let same : 8192 + 64 * c.index.result + c.args.offset ≡ 8192 + (64 * c.args.entry + c.args.offset) = omega (arith, c.index.ensures.same) in
     let at : begins_at (8192 + (64 * c.args.entry + c.args.offset)) (from_head c.args.line.now c.self.inside.kept) ≡ true =
-    subst (λ (p : ℕ). begins_at p (from_head c.args.line.now c.self.inside.kept) ≡ true) same (sym c.if-not-is_at.ensures) in
-    rw (← c.self.view_is) ((exit_next c.self.inside.version c.self.inside.kept c.args.line.now c.in-Some.end c.args.entry c.args.offset _ c.self.invariant
-    (omega (arith, c.index.ensures.same, c.index.ensures.small)) c.requires.offset at (sym c.in-Some.ensures.there) c.in-Some.ensures.says c.in-Some.ensures.end).stands)
+    subst (λ (p : ℕ). begins_at p (from_head c.args.line.now c.self.inside.kept) ≡ true) same (sym c.if-not-is_at.ensures.at) in
+    let n = exit_skipped c.self.inside.version c.self.inside.kept c.args.line.now (c.args.line.now + 1) c.args.entry c.args.offset c.self.invariant
+    (omega (arith, c.index.ensures.same, c.index.ensures.small)) c.requires.offset at refl in
+    rw (← c.self.view_is) n.1.stands
 
-pub returns-in-None-clause-none : goal.returns-in-None-clause-none
-returns-in-None-clause-none g c =
-    has_said c.self.inside.version c.self.inside.kept c.args.line.now _ c.self.invariant (omega arith) (omega (arith, c.index.ensures.small, c.requires.offset))
-    (sym c.if-not-is_at.ensures) (sym c.in-None.ensures.there)
-
-pub returns-in-Some-clause-shape : goal.returns-in-Some-clause-shape
-returns-in-Some-clause-shape g c = λ done. has_shape_there c.self.inside.version c.self.inside.kept c.args.line.now _ _ c.self.invariant (sym c.if-not-is_at.ensures) c.in-Some.ensures.says
+pub returns-clause-shape : goal.returns-clause-shape
+returns-clause-shape g c = λ done.
+    let there : c.put_fact-_is_there.result ≡ true =
+    told_there c.self.inside.version c.self.inside.kept c.args.line.now _ _ _ c.self.invariant (omega arith) (omega (arith, c.index.ensures.small, c.requires.offset))
+    (sym c.if-not-is_at.ensures.at) c.text_of.ensures.lines c.put_fact-_is_there.ensures.there in
+    has_shape_there c.self.inside.version c.self.inside.kept c.args.line.now _ _ c.self.invariant (sym c.if-not-is_at.ensures.at)
+    (said_told _ _ _ c.text_of.ensures.lines (c.put_fact-_is_there.ensures.says there))

@@ -1,7 +1,8 @@
 -- Lines that are kept as their text.
-use Rattle.std.proofs.Common.{◌≡◌, ℕ, ◌+◌, ◌<◌, ◌≤◌, ◌==◌, true, false, List, [], ◌∷◌, ◌++◌, length, get_or, refl, ap, ◌∙◌, sym, subst, arith, append_assoc, append-nil, length-append}
+use Rattle.std.proofs.Common.{◌≡◌, ℕ, zero, suc, inl, inr, ◌+◌, ◌<◌, ◌≤◌, ◌==◌, true, false, List, [], ◌∷◌, ◌++◌, length, get_or, refl, ap, ◌∙◌, sym, subst, arith, append_assoc, append-nil, length-append}
 use Rattle.std.specs.List.{slice_split}
-use Rattle.std.proofs.lemmas.Bool.{false≢true, eqb-true}
+use Rattle.std.proofs.lemmas.Bool.{false≢true, eqb-true, cases_Bool}
+use Rattle.std.specs.List.Sorted.{IsNonDecreasingBy}
 use Rattle.std.proofs.lemmas.List.Concat.{flat_map-append}
 use Rattle.std.proofs.lemmas.List.Splits.{length-slice_split}
 use Rattle.certificate_lines.specs.declared.Version.TheVariants.{Three}
@@ -11,18 +12,19 @@ use Rattle.certificate_lines.specs.RisingLists.{Each}
 use Rattle.certificate_lines.specs.Pieces.{pieces}
 use Rattle.certificate_lines.specs.LineFeeds.{NoFeed}
 use Rattle.certificate_lines.specs.LineWords.{words_in}
-use Rattle.certificate_lines.specs.Lines.{Line}
+use Rattle.certificate_lines.specs.Lines.{Line, is_detail}
 use Rattle.certificate_lines.specs.LineOf.{said_by}
 use Rattle.certificate_lines.specs.Spelling.{line_text}
 use Rattle.certificate_lines.specs.Spelled.{all_ended}
 use Rattle.certificate_lines.specs.Stored.{lines_by, lines_in, heads_from, heads_of, IsText, IsStored}
-use Rattle.certificate_lines.specs.Found.{IsLine}
+use Rattle.certificate_lines.specs.Order.{details_of_last}
+use Rattle.certificate_lines.specs.Found.{IsLine, AreRising, from_head, from_place, first_with_details}
 use Rattle.certificate_lines.proofs.TextLemmas.{seam, each_append}
 use Rattle.certificate_lines.proofs.LineOfLemmas.{split_at}
 use Rattle.certificate_lines.proofs.SumLineLemmas.{said_back}
 use Rattle.certificate_lines.proofs.SumTextLemmas.{feeds}
 use Rattle.certificate_lines.proofs.SumLengthLemmas.{line_feed}
-use Rattle.certificate_lines.proofs.SumFoundLemmas.{HeadAt, head_at, heads_more}
+use Rattle.certificate_lines.proofs.SumFoundLemmas.{HeadAt, head_at, head_none, heads_more, rises, search_told}
 
 -- A line, and those after it.
 first_by : (line : List ℕ) (n : ℕ) (ps : List (List ℕ)) → length ps ≡ n + 1 → lines_by (line ∷ ps) ≡ said_by Three (words_in line) ∷ lines_by ps
@@ -92,3 +94,40 @@ pub shorter_left : (text rest : List ℕ) (l : Line) (ls : List Line) → text �
 shorter_left text rest l ls e f =
     let y : length text ≡ length (all_ended Three (l ∷ ls)) = ap length e in let z : length rest ≡ length (all_ended Three ls) = ap length f in
     omega (arith, y, z, length-append (ended (line_text Three l)) (all_ended Three ls), length-append (line_text Three l) (10 ∷ []))
+
+-- Finding among what is kept.
+pub rises_kept : (bytes : List ℕ) (heads : List Head) → IsStored bytes heads → AreRising 0 (lines_in bytes) → IsNonDecreasingBy (λ (h : Head). h.place) heads
+rises_kept bytes heads s up = subst (IsNonDecreasingBy (λ (h : Head). h.place)) (sym s.heads) (rises 0 0 (lines_in bytes) up)
+
+pub sought : (bytes : List ℕ) (heads : List Head) → IsStored bytes heads → (p i : ℕ) → i ≤ length heads → ((j : ℕ) (d : Head) → j < i → (get_or heads j d).place < p) →
+    ((d : Head) → i < length heads → p ≤ (get_or heads i d).place) → from_head i (lines_in bytes) ≡ from_place p (lines_in bytes)
+sought bytes heads s p i few under over =
+    search_told 0 p i (lines_in bytes) (subst (λ (x : List Head). i ≤ length x) s.heads few)
+    (λ j d b. subst (λ (x : List Head). (get_or x j d).place < p) s.heads (under j d b))
+    (λ d b. subst (λ (x : List Head). p ≤ (get_or x i d).place) s.heads (over d (subst (λ (x : List Head). i < length x) (sym s.heads) b)))
+
+-- A text that is cut out of what is kept.
+pub cut_text : (bytes : List ℕ) (heads : List Head) → IsStored bytes heads → (i : ℕ) (piece : List ℕ) → piece ≡ all_ended Three (first_with_details (from_head i (lines_in bytes))) →
+    IsText piece × (lines_in piece ≡ first_with_details (from_head i (lines_in bytes)))
+cut_text bytes heads s i piece e =
+    let form : Each (IsLine Three) (first_with_details (from_head i (lines_in bytes))) = each_first (from_head i (lines_in bytes)) (each_head i (lines_in bytes) s.text.form) in
+    (text_of _ piece form e, read_back _ piece form e)
+  where
+    each_details : (ls : List Line) → Each (IsLine Three) ls → Each (IsLine Three) (details_of_last ls)
+    each_details [] h = tt
+    each_details (l ∷ ls) h = elim (cases_Bool (is_detail l)) [ inl d ↦ rw d (h.0, each_details ls h.1) | inr d ↦ rw d tt ]
+
+    each_first : (ls : List Line) → Each (IsLine Three) ls → Each (IsLine Three) (first_with_details ls)
+    each_first [] h = tt
+    each_first (l ∷ ls) h = (h.0, each_details ls h.1)
+
+    each_head : (i : ℕ) (ls : List Line) → Each (IsLine Three) ls → Each (IsLine Three) (from_head i ls)
+    each_head zero [] h = tt
+    each_head (suc i) [] h = tt
+    each_head zero (l ∷ ls) h = elim (cases_Bool (is_detail l)) [ inl d ↦ rw d (each_head zero ls h.1) | inr d ↦ rw d h ]
+    each_head (suc i) (l ∷ ls) h = elim (cases_Bool (is_detail l)) [ inl d ↦ rw d (each_head (suc i) ls h.1) | inr d ↦ rw d (each_head i ls h.1) ]
+
+pub no_text : (bytes : List ℕ) (heads : List Head) → IsStored bytes heads → (i : ℕ) → length heads ≤ i → [] ≡ all_ended Three (first_with_details (from_head i (lines_in bytes)))
+no_text bytes heads s i few =
+    let none : from_head i (lines_in bytes) ≡ [] = head_none 0 i (lines_in bytes) (kept_count bytes heads s i few) in
+    sym (ap (λ (x : List Line). all_ended Three (first_with_details x)) none)

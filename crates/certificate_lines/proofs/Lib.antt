@@ -20,6 +20,7 @@ pub mod SumAddingLemmas
 pub mod SumFieldLemmas
 pub mod SumWholeLemmas
 pub mod SumDetailLemmas
+pub mod ToldLemmas
 pub mod FormLemmas
 pub mod SumReadLemmas
 pub mod SumReaderLemmas

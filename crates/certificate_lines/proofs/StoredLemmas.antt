@@ -64,6 +64,9 @@ read_back ls bytes form is = ap lines_in is ∙ lines_back ls form
 pub no_lines : IsStored [] []
 no_lines = stored [] [] [] tt refl refl
 
+pub empty_text : IsText [] × (lines_in [] ≡ [])
+empty_text = (text_of [] [] tt refl, none_in)
+
 pub both_ended : (ls ms : List Line) → all_ended Three (ls ++ ms) ≡ all_ended Three ls ++ all_ended Three ms
 both_ended ls ms = flat_map-append (λ l. ended (line_text Three l)) ls ms
 

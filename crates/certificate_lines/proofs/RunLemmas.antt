@@ -55,6 +55,11 @@ no_dash text [] [] ends = tt
 no_dash text [] (c ∷ cs) ends = λ q. omega arith
 no_dash text (r ∷ rs) tail ends = λ q. absurd (omega arith)
 
+-- No further run is next where a field ends.
+no_comma : (tail x : List ℕ) → EndsField tail → tail ≡ 44 ∷ x → ⊥
+no_comma [] x ends e = absurd (cc)
+no_comma (c ∷ cs) x ends e = let z : c ≡ 44 = cc in omega arith
+
 put_in : (set new : Words) (more : List Run) (next run : Run) → set ≡ joined nothing more → new ≡ union set (between run.first run.last) →
     run.first ≡ next.first → run.last ≡ next.last → new ≡ joined nothing (more ++ next ∷ [])
 put_in set new more next run is e f g = e ∙ (rw (is, f, g) refl ∙ sym (joined_more nothing more next))
@@ -82,10 +87,6 @@ module _ (text : ℕ → List ℕ) (most : ℕ) (set new : Words) (now mid : Lis
       further : (b : Behind text most (r ∷ rs) new mid tail) (others : List Run) → r ∷ rs ≡ b.more ++ others → StandApart 0 others → AllBelow most others →
           mid ≡ more_text text others ++ tail → Ahead text most (r ∷ rs) new next tail
       further b [] is apart below left = absurd (no_comma tail next ends (sym left ∙ took))
-        where
-          no_comma : (tail x : List ℕ) → EndsField tail → tail ≡ 44 ∷ x → ⊥
-          no_comma [] x ends e = absurd (cc)
-          no_comma (c ∷ cs) x ends e = let z : c ≡ 44 = cc in omega arith
       further b (n ∷ ns) is apart below left = record {
         more = b.more;
         next = n;

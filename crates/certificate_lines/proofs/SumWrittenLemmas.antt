@@ -5,6 +5,7 @@ use Rattle.std.proofs.lemmas.Bool.{true≢false, false≢true, cases_Bool, and_p
 use Rattle.std.proofs.lemmas.Bool.Decides.{nat_tests}
 use Rattle.std.proofs.lemmas.List.{drop_all, length-drop, get_or_past}
 use Rattle.certificate_lines.specs.declared.Version.{Version}
+use Rattle.certificate_lines.specs.RisingLists.{Each}
 use Rattle.certificate_lines.specs.Lines.{Line, RoutineIs, FactIs, ExitIs, CellIs, SumIs, ChainIs, End, is_detail}
 use Rattle.certificate_lines.specs.Order.{place_of_head, details_of_last}
 use Rattle.certificate_lines.specs.Reading.{facts_at}
@@ -38,6 +39,26 @@ lines_end (CellIs c ∷ ls) a = lines_end ls a
 lines_end (SumIs s ∷ ls) a = lines_end ls a
 lines_end (ChainIs c ∷ ls) a = lines_end ls a
 lines_end (End ∷ ls) a = lines_end ls a
+
+-- What holds of each line holds of those of a fact.
+each_detail : (P : Line → Type 0) (ls : List Line) → Each P ls → Each P (details_of_last ls)
+each_detail P [] h = tt
+each_detail P (l ∷ ls) h = elim (cases_Bool (is_detail l)) [ inl d ↦ rw d (h.0, each_detail P ls h.1) | inr d ↦ rw d tt ]
+
+pub each_fact_line : (P : Line → Type 0) (ls : List Line) (a n : ℕ) → Each P ls → Each P (get_or (facts_lines ls a) n [])
+each_fact_line P [] a zero h = tt
+each_fact_line P [] a (suc n) h = tt
+each_fact_line P (FactIs b s r o ∷ ls) a n h = elim (cases_Bool (b == a)) [ inl t ↦ rw t (first n) | inr f ↦ rw f (each_fact_line P ls a n h.1) ]
+  where
+    first : (n : ℕ) → Each P (get_or ((FactIs b s r o ∷ details_of_last ls) ∷ facts_lines ls a) n [])
+    first zero = (h.0, each_detail P ls h.1)
+    first (suc n) = each_fact_line P ls a n h.1
+each_fact_line P (RoutineIs r ∷ ls) a n h = each_fact_line P ls a n h.1
+each_fact_line P (ExitIs e o s r ∷ ls) a n h = each_fact_line P ls a n h.1
+each_fact_line P (CellIs c ∷ ls) a n h = each_fact_line P ls a n h.1
+each_fact_line P (SumIs s ∷ ls) a n h = each_fact_line P ls a n h.1
+each_fact_line P (ChainIs c ∷ ls) a n h = each_fact_line P ls a n h.1
+each_fact_line P (End ∷ ls) a n h = each_fact_line P ls a n h.1
 
 -- Lines of another place are none of a fact at an address.
 other_line : (l : Line) (ls : List Line) (a : ℕ) → (not (is_detail l) && nat_le (4096 + a) (place_of_head l)) ≡ false → facts_lines (l ∷ ls) a ≡ facts_lines ls a

@@ -1,8 +1,4 @@
-pub mod ParserLemmas
-pub mod LengthLemmas
-pub mod SpelledLemmas
 pub mod ServedLemmas
-pub mod SumLengthLemmas
 pub mod SumAnswerLemmas
 pub mod SumParserLemmas
 pub mod SumServedLemmas

@@ -1,5 +1,5 @@
 -- Routines, facts and exits by the places of their lines, in all versions.
-use Rattle.std.proofs.Common.{◌≡◌, ◌⊎◌, ℕ, ◌+◌, ◌*◌, ◌-◌, ◌<◌, ◌≤◌, ◌==◌, ◌&&◌, ◌||◌, not, Bool, true, false, List, [], ◌∷◌, ◌++◌, drop, Some, refl, ap, ◌∙◌, sym, subst, inl, inr, arith}
+use Rattle.std.proofs.Common.{◌≡◌, ◌⊎◌, ℕ, ◌+◌, ◌*◌, ◌-◌, ◌<◌, ◌≤◌, ◌==◌, ◌&&◌, ◌||◌, not, Bool, true, false, List, [], ◌∷◌, ◌++◌, Some, refl, ap, ◌∙◌, sym, subst, inl, inr, arith}
 use Rattle.std.specs.Prelude.{nat_le, nat_lt, min}
 use Rattle.std.proofs.lemmas.Bool.{true≢false, false≢true, cases_Bool, cases_lt, and_parts, or_left, or_right, ltb-true, le-leb, lt-leb, lt-ltb, le-ltb, ne_eqb, eq-eqb, eqb-true}
 use Rattle.std.proofs.lemmas.Bool.Decides.{eqb_tells}
@@ -14,7 +14,7 @@ use Rattle.certificate_lines.specs.LineOf.{has_form}
 use Rattle.certificate_lines.specs.Order.{place_of_head}
 use Rattle.certificate_lines.specs.Reading.{facts_at, exits_at, routine_at, is_listed}
 use Rattle.certificate_lines.specs.CertificateInCode.{BeginAt}
-use Rattle.certificate_lines.specs.Found.{IsLine, IsWhole, AreRising, from_place, begins_at, least_place}
+use Rattle.certificate_lines.specs.Found.{IsLine, IsWhole, AreRising, from_place, from_head, begins_at, least_place}
 use Rattle.certificate_lines.proofs.SumReaderLemmas.{has_place, formed, line_formed, begin_found, NextLine, next_line, facts_end, exits_end}
 
 -- A line of another kind than a detail has this place.

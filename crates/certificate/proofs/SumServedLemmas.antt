@@ -15,7 +15,7 @@ use Rattle.certificate.specs.declared.parser.Parser.{Parser}
 use Rattle.certificate_lines.specs.FieldSpelling.{ended}
 use Rattle.certificate_lines.specs.Pieces.{most_bytes}
 use Rattle.certificate_lines.specs.ReadFaults.{is_read_fault, failed_to_read}
-use Rattle.certificate_lines.specs.Lines.{is_end}
+use Rattle.certificate_lines.specs.Lines.{Line, is_end}
 use Rattle.certificate_lines.specs.Order.{oldest}
 use Rattle.certificate_lines.specs.Reading.{Text, at_last, reading}
 use Rattle.certificate_lines.specs.CertificateInCode.{Kept}

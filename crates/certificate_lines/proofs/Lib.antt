@@ -6,6 +6,7 @@ pub mod DigitLemmas
 pub mod LineLemmas
 pub mod LineOfLemmas
 pub mod SumLineLemmas
+pub mod SumOrderLemmas
 pub mod SumTextLemmas
 pub mod PackedLemmas
 pub mod MakerLemmas
@@ -16,6 +17,7 @@ pub mod SumLengthLemmas
 pub mod SumSpelledLemmas
 pub mod SumFoundLemmas
 pub mod StoredLemmas
+pub mod AddedLemmas
 pub mod SumAddingLemmas
 pub mod SumFieldLemmas
 pub mod SumWholeLemmas

@@ -1,7 +1,7 @@
 -- Lines added to those of a certificate.
 use Rattle.std.proofs.Common.{◌+◌, List, ◌++◌, ap, ◌∙◌, append_assoc}
 use Rattle.std.specs.Prelude.{Result, Ok, Err, OnOk}
-use Rattle.certificate_lines.specs.Runs.{Begins}
+use Rattle.certificate_lines.specs.Stored.{Begins}
 
 -- What follows where a call succeeded.
 pub on_ok : {X E : Type 0} (r : Result X E) (P Q : Type 0) → (P → Q) → OnOk r P → OnOk r Q

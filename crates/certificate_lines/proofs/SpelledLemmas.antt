@@ -1,7 +1,7 @@
 -- The text of a line while it's written.
-use Rattle.std.proofs.Common.{◌≡◌, ℕ, Option, length-append, ◌-◌, ◌+◌, ◌<◌, ◌≤◌, ◌==◌, Bool, true, false, List, [], ◌∷◌, ◌++◌, length, refl, ap, ◌∙◌, sym, inl, inr, arith, append_assoc, append-nil, get_or, length-take-le}
+use Rattle.std.proofs.Common.{◌≡◌, ℕ, length-append, ◌-◌, ◌+◌, ◌<◌, ◌≤◌, ◌==◌, Bool, true, false, List, [], ◌∷◌, ◌++◌, length, refl, ap, ◌∙◌, sym, inl, inr, arith, append_assoc, append-nil, length-take-le}
 use Rattle.std.specs.Prelude.{take, not, nat_le, if◌then◌else◌}
-use Rattle.std.proofs.lemmas.Bool.{true≢false, not-true, and_parts, leb-true, ne_eqb, cases_lt}
+use Rattle.std.proofs.lemmas.Bool.{true≢false, not-true, and_parts, leb-true, ne_eqb, eqb-true, cases_lt}
 use Rattle.wordset.proofs.Tests.{none_of_some, some_to}
 use Rattle.std.proofs.lemmas.List.{take_all, length-take, take-append-le}
 use Rattle.std.proofs.Math.Seq.{take-append-add}
@@ -14,6 +14,14 @@ use Rattle.certificate_lines.specs.LineText.{Adds, IsLastOf}
 use Rattle.certificate_lines.proofs.SetLemmas.{text_all, one_run_text, empty_text}
 use Rattle.certificate_lines.proofs.ApartLemmas.{runs_text, comma, has_more, runs_more, Closed, found_run, closed_all, closed_apart}
 use Rattle.certificate_lines.proofs.DigitLemmas.{digits_more, digits_none}
+
+-- A test that failed, and a list of which a test said that it's full.
+pub not_true : (b : Bool) → true ≡ not b → b ≡ false
+not_true true e = e
+not_true false e = refl
+
+pub is_full : (n most : ℕ) → true ≡ (n == most) → most ≤ n
+is_full n most e = let z : n ≡ most = eqb-true n most (sym e) in omega arith
 
 take_twice : (xs ys : List ℕ) (n : ℕ) → take n (take n xs ++ ys) ≡ take n (xs ++ ys)
 take_twice xs ys n = elim (cases_lt n (length xs)) [

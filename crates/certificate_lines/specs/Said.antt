@@ -38,6 +38,12 @@ abbrev pub IsNumbered : Subject → Type 0
 IsNumbered (subject.Exit e o) = o < 64
 IsNumbered _ = Unit {0}
 
+-- It is a fact or an exit.
+abbrev pub TellsFact : Subject → Type 0
+TellsFact (subject.Fact a) = Unit {0}
+TellsFact (subject.Exit e o) = Unit {0}
+TellsFact _ = ⊥
+
 -- The sites that a line says, or none in the versions that say nothing of them.
 abbrev pub sites_if : Bool → facts.Fact → Words
 sites_if true f = f.sites

@@ -97,7 +97,10 @@ fn is_relation(sum: &Sum) -> bool
     if !are_small(sum.summands()) {
         return false;
     }
-    has_shape(sum) && sum.arranged().is_same(sum)
+    if !has_shape(sum) {
+        return false;
+    }
+    sum.arranged().is_same(sum)
 }
 
 /// Whether no set of the registers is empty.

@@ -7,6 +7,7 @@ ghost use Rattle.domain.specs.TrackedCells.{TrackedCell as Tracked};
 ghost use Rattle.domain.specs.Chains.{Chain as SaidChain};
 ghost use Rattle.domain.specs.Facts.{Relation};
 ghost use Rattle.domain.specs.Offsets.{offsets_in};
+ghost use Rattle.certificate_lines.specs.declared.said.LineSets.{LineSets};
 ghost use Rattle.certificate_lines.specs.RisingLists.{EndsBefore};
 ghost use Rattle.certificate_lines.specs.FieldSpelling.{RoutineLine as SaidRoutine, Registers as SaidRegisters, routine_line, cell_line};
 ghost use Rattle.certificate_lines.specs.FieldsLeft.{left, EndsField, EndsLine};

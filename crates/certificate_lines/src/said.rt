@@ -2,6 +2,7 @@
 
 ghost use Rattle.std.specs.Prelude.{◌≡◌, ◌<◌, ◌≤◌, true};
 ghost use Rattle.domain.specs.InCode.{sum_of};
+ghost use Rattle.certificate_lines.specs.declared.said.LineSets.{LineSets};
 ghost use Rattle.certificate_lines.specs.Lines.{is_detail, is_end, has_details};
 ghost use Rattle.certificate_lines.specs.Order.{detail_is_before, place_of_head, sum_is_before};
 ghost use Rattle.certificate_lines.specs.Said.{line_said, IsNumbered};
@@ -62,15 +63,23 @@ pub struct LineSets {
 fn is_sum_before(sum: &Sum, other: &Sum) -> bool
     ensures { result ≡ sum_is_before (sum_of sum.now) (sum_of other.now) }
 {
-    let least = sum.len().min(other.len());
-    for at in 0..least {
+    for at in 0..sum.len() {
+        if at >= other.len() {
+            return false;
+        }
         let mine = sum.get(at);
         let its = other.get(at);
-        if !mine.term.is_same(&its.term) {
-            return mine.term.is_before(&its.term);
+        if mine.term.is_before(&its.term) {
+            return true;
         }
-        if mine.coefficient != its.coefficient {
-            return mine.coefficient.index() < its.coefficient.index();
+        if !mine.term.is_same(&its.term) {
+            return false;
+        }
+        if mine.coefficient.index() < its.coefficient.index() {
+            return true;
+        }
+        if mine.coefficient.index() > its.coefficient.index() {
+            return false;
         }
     }
     sum.len() < other.len()

@@ -1,25 +1,28 @@
 //! The lines of a certificate as they are kept: their text in version 3, which all versions can be told from, and where each
 //! routine, fact and exit begins.
 
-ghost use Rattle.std.specs.Prelude.{ℕ, ◌≡◌, ◌+◌, ◌<◌, ◌≤◌, List, [], ◌∷◌, ◌++◌, length, map, true, is_ok, Ok, OnOk, OnErr, if◌then◌else◌};
+ghost use Rattle.std.specs.Prelude.{◌≡◌, ◌+◌, ◌<◌, ◌≤◌, List, [], ◌∷◌, ◌++◌, length, map, take, true, is_ok, Ok, OnOk, OnErr, if◌then◌else◌};
 ghost use Rattle.domain.specs.CellsInCode.{cell_set_of};
 ghost use Rattle.domain.specs.RelationsInCode.{relation_of};
 ghost use Rattle.domain.specs.ChainsInCode.{chain_of};
+ghost use Rattle.domain.specs.Offsets.{offsets_in};
 ghost use Rattle.domain.specs.FactInCode.{fact_in_code};
+ghost use Rattle.certificate_lines.specs.declared.said.LineSets.{LineSets};
 ghost use Rattle.certificate_lines.specs.RisingLists.{Each};
 ghost use Rattle.certificate_lines.specs.declared.Version.TheVariants.{Three};
 ghost use Rattle.certificate_lines.specs.FieldSpelling.{ended};
-ghost use Rattle.certificate_lines.specs.Lines.{Line as SaidLine, CellIs, SumIs, ChainIs, is_detail};
+ghost use Rattle.certificate_lines.specs.Lines.{CellIs, SumIs, ChainIs, is_detail};
 ghost use Rattle.certificate_lines.specs.Line.{Spells};
 ghost use Rattle.certificate_lines.specs.Spelling.{line_text};
 ghost use Rattle.certificate_lines.specs.Spelled.{all_ended};
-ghost use Rattle.certificate_lines.specs.Said.{line_said, head_line, IsNumbered};
+ghost use Rattle.certificate_lines.specs.Said.{set_in, registers_in, line_said, sites_if, registers_in_fact, head_line, IsNumbered, TellsFact};
 ghost use Rattle.certificate_lines.specs.Made.{routine_line_of, details_of};
 ghost use Rattle.certificate_lines.specs.Stored.{Begins, heads_of, lines_in, IsText};
 ghost use Rattle.certificate_lines.specs.Found.{IsLine, AreRising, from_head, from_place, begins_at, least_place, first_with_details};
 
 use crate::{RoutineClaim, Version};
 use crate::line_text::LineText;
+use crate::runs::LineSet;
 use crate::said::{CertifiedFact, LAST_PLACE, LineSets, Subject};
 use domain::{CellSet, Chain, Relation};
 use std::alloc::{AllocError, Allocator};
@@ -102,14 +105,19 @@ fn finish<A: Allocator>(
         ((sets : LineSets) → heads.new.items ≡ heads.old.items ++ heads_of start (line_said said.now sets))) }
     ensures same { OnErr result ((text.new.items ≡ take start text.old.items) × (heads.new.items ≡ heads.old.items)) }
 {
-    let kept = match pushed {
-        Ok(()) => push_head(heads, start, said),
-        Err(refused) => Err(refused),
-    };
-    if kept.is_err() {
-        text.truncate(start);
+    match pushed {
+        Ok(()) => match push_head(heads, start, said) {
+            Ok(()) => Ok(()),
+            Err(refused) => {
+                text.truncate(start);
+                Err(refused)
+            }
+        },
+        Err(refused) => {
+            text.truncate(start);
+            Err(refused)
+        }
     }
-    kept
 }
 
 /// Adds the head of a line, if it is no detail, or leaves the heads as they are.
@@ -224,6 +232,64 @@ fn push_chains<A: Allocator>(
     Ok(())
 }
 
+/// Makes it the sites that the line of a fact has, or none in the versions that say nothing of them.
+fn set_sites(set: &mut LineSet, with_sites: bool, fact: &CertifiedFact)
+    ensures { set_in set.new ≡ sites_if with_sites (fact_in_code fact.now) }
+{
+    if with_sites {
+        set.set_brief(fact.sites());
+    } else {
+        set.clear();
+    }
+}
+
+/// Makes them the sets that the line of a fact has.
+fn set_all(sets: &mut LineSets, with_sites: bool, fact: &CertifiedFact)
+    ensures sites { set_in sets.new.sites ≡ sites_if with_sites (fact_in_code fact.now) }
+    ensures registers { registers_in sets.new ≡ registers_in_fact (fact_in_code fact.now) }
+    ensures offsets { offsets_in sets.new.offsets ≡ (fact_in_code fact.now).offsets }
+{
+    set_sites(&mut sets.sites, with_sites, fact);
+    sets.words.set(fact.accumulator());
+    sets.mq.set(fact.mq());
+    sets.link = fact.link();
+    sets.offsets = fact.offsets();
+}
+
+/// Adds the line of a fact or an exit; where that is refused, some of it.
+fn push_first<A: Allocator>(
+    text: &mut Vec<u8, A>,
+    room: &mut LineRoom,
+    said: &Subject,
+    with_sites: bool,
+    fact: &CertifiedFact,
+) -> Result<(), AllocError>
+    requires head { TellsFact said.now }
+    requires form { IsLine Three (head_line said.now with_sites (fact_in_code fact.now)) }
+    ensures whole { OnOk result (text.new.items ≡ text.old.items ++
+        ended (line_text Three (head_line said.now with_sites (fact_in_code fact.now)))) }
+    ensures front { Begins text.old.items text.new.items }
+{
+    set_all(&mut room.sets, with_sites, fact);
+    room.spell(said);
+    push_line(text, room.text.as_bytes())
+}
+
+/// Adds the lines of a fact's details; where that is refused, some of them.
+fn push_details<A: Allocator>(
+    text: &mut Vec<u8, A>,
+    room: &mut LineRoom,
+    fact: &CertifiedFact,
+) -> Result<(), AllocError>
+    requires { Each (IsLine Three) (details_of fact.now) }
+    ensures whole { OnOk result (text.new.items ≡ text.old.items ++ all_ended Three (details_of fact.now)) }
+    ensures front { Begins text.old.items text.new.items }
+{
+    push_cells(text, room, fact.told_cells())?;
+    push_relations(text, room, fact.relations().as_slice())?;
+    push_chains(text, room, fact.chains())
+}
+
 /// Adds the line of a fact or an exit and those of its details; where that is refused, some of them.
 fn push_fact<A: Allocator>(
     text: &mut Vec<u8, A>,
@@ -232,25 +298,14 @@ fn push_fact<A: Allocator>(
     with_sites: bool,
     fact: &CertifiedFact,
 ) -> Result<(), AllocError>
-    requires { Each (IsLine Three) (head_line said.now with_sites (fact_in_code fact.now) ∷ details_of fact.now) }
+    requires head { TellsFact said.now }
+    requires form { Each (IsLine Three) (head_line said.now with_sites (fact_in_code fact.now) ∷ details_of fact.now) }
     ensures whole { OnOk result (text.new.items ≡ text.old.items ++
         all_ended Three (head_line said.now with_sites (fact_in_code fact.now) ∷ details_of fact.now)) }
     ensures front { Begins text.old.items text.new.items }
 {
-    if with_sites {
-        room.sets.sites.set_brief(fact.sites());
-    } else {
-        room.sets.sites.clear();
-    }
-    room.sets.words.set(fact.accumulator());
-    room.sets.mq.set(fact.mq());
-    room.sets.link = fact.link();
-    room.sets.offsets = fact.offsets();
-    room.spell(said);
-    push_line(text, room.text.as_bytes())?;
-    push_cells(text, room, fact.told_cells())?;
-    push_relations(text, room, fact.relations().as_slice())?;
-    push_chains(text, room, fact.chains())
+    push_first(text, room, said, with_sites, fact)?;
+    push_details(text, room, fact)
 }
 
 impl<A: Allocator + Copy> LineStore<A> {
@@ -316,7 +371,8 @@ impl<A: Allocator> LineStore<A> {
         with_sites: bool,
         fact: &CertifiedFact,
     ) -> Result<(), AllocError>
-        requires { Each (IsLine Three) (head_line said.now with_sites (fact_in_code fact.now) ∷ details_of fact.now) }
+        requires head { TellsFact said.now }
+        requires form { Each (IsLine Three) (head_line said.now with_sites (fact_in_code fact.now) ∷ details_of fact.now) }
         ensures { self.new ≡ (if is_ok result
             then self.old ++ (head_line said.now with_sites (fact_in_code fact.now) ∷ details_of fact.now)
             else self.old) }

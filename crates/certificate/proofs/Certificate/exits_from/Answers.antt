@@ -1,5 +1,5 @@
-use Rattle.std.proofs.Common.{◌≡◌, ◌+◌, ◌*◌, ℕ, drop, subst, arith}
-use Rattle.certificate_lines.specs.Found.{from_place}
+use Rattle.std.proofs.Common.{◌≡◌, ◌+◌, ◌*◌, ℕ, subst, arith}
+use Rattle.certificate_lines.specs.Found.{from_place, from_head}
 use Rattle.certificate_lines.proofs.SumReaderLemmas.{exits_begin}
 use Rattle.certificate.proofs.Certificate.exits_from.Goals as goal
 

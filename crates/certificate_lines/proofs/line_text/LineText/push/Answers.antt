@@ -1,5 +1,4 @@
-use Rattle.certificate_lines.proofs.ParserLemmas.{is_full}
-use Rattle.certificate_lines.proofs.SpelledLemmas.{dropped}
+use Rattle.certificate_lines.proofs.SpelledLemmas.{is_full, dropped}
 use Rattle.certificate_lines.proofs.line_text.LineText.push.Goals as goal
 
 pub returns-else-not-is_full-clause-adds : goal.returns-else-not-is_full-clause-adds

@@ -1,6 +1,5 @@
 use Rattle.std.proofs.Common.{◌≡◌, ◌==◌, false, sym, ◌∙◌}
-use Rattle.certificate_lines.proofs.DigitLemmas.{not_true}
-use Rattle.certificate_lines.proofs.SpelledLemmas.{joined}
+use Rattle.certificate_lines.proofs.SpelledLemmas.{not_true, joined}
 use Rattle.certificate_lines.proofs.line_text.LineText.run.Goals as goal
 
 pub returns-then-ne : goal.returns-then-ne

@@ -1,8 +1,8 @@
 use Rattle.std.proofs.Common.{sym}
 use Rattle.wordset.proofs.Tests.{some_from}
 use Rattle.domain.specs.Offsets.{offsets_in}
-use Rattle.certificate.proofs.SumSpelledLemmas.{none_yet, none_more, none_at_all}
-use Rattle.certificate.proofs.spelling.has_below.Goals as goal
+use Rattle.certificate_lines.proofs.SumSpelledLemmas.{none_yet, none_more, none_at_all}
+use Rattle.certificate_lines.proofs.line_text.has_below.Goals as goal
 
 pub loop-offset-init : goal.loop-offset-init
 loop-offset-init c = none_yet (offsets_in c.args.offsets)

@@ -331,6 +331,16 @@ pub each_three : (v : Version) (ls : List Line) → Each (IsLine v) ls → Each 
 each_three v [] h = tt
 each_three v (l ∷ ls) h = (three v l h.0, each_three v ls h.1)
 
+-- A line with other sites.
+sited_form : (sites : Words) (l : Line) → EndsBefore 4096 sites → IsLine Three l → IsLine Three (sited_line sites l)
+sited_form sites (FactIs a s r o) ends h = (h.0, (ends, h.1.1, h.1.2))
+sited_form sites (ExitIs e o s r) ends h = (h.0, (ends, h.1.1))
+sited_form sites (RoutineIs r) ends h = h
+sited_form sites (CellIs c) ends h = h
+sited_form sites (SumIs r) ends h = h
+sited_form sites (ChainIs c) ends h = h
+sited_form sites End ends h = h
+
 -- Lines are added one after another.
 pub record Sited (f : Line → Line) (kept now all : List Line) (rest : List ℕ) : Type 0 where
   pub left : List Line
@@ -358,6 +368,9 @@ all_sited f kept now all rest w none = sym (append-nil now) ∙ (ap (λ (x : Lis
 pub claimed_sites : (k : Kept) → IsWhole k.version k.lines → (e : ℕ) → EndsBefore 4096 ((claims k).sites e)
 claimed_sites k w e = subst (λ (r : Option RoutineLine). EndsBefore 4096 (sites_in r)) (sym (routine_end k.lines e))
     (sites_end k.version k.lines e (formed k.version k.lines w))
+
+pub sited_there : (k : Kept) (d : Declaration) (l : Line) → IsWhole k.version k.lines → IsLine Three l → IsLine Three (sited_by d (claims k) l)
+sited_there k d l w h = sited_form (sites_by d (claims k) l) l (by_end d (claims k) l (claimed_sites k w)) h
 
 pub whole_sited : (k : Kept) (d : Declaration) (new : List Line) → IsWhole k.version k.lines → is_of_sums k.version ≡ false →
     new ≡ map (sited_by d (claims k)) k.lines → IsWhole Three new

@@ -1,17 +1,17 @@
 //! Certificates that are made line by line, in all versions.
 
-ghost use Rattle.std.specs.Prelude.{◌≡◌, ◌<◌, List, [], ◌∷◌, ◌++◌, map, false, IfOk, OnOk, OnErr};
+ghost use Rattle.std.specs.Prelude.{◌≡◌, ◌<◌, [], ◌∷◌, ◌++◌, map, false, IfOk, OnOk, OnErr};
 ghost use Rattle.wordset.specs.Lanes.{words};
 ghost use Rattle.declaration.specs.DeclarationInCode.{meaning as declared};
-ghost use Rattle.certificate_lines.specs.declared.said.LineSets.{LineSets};
 ghost use Rattle.certificate_lines.specs.Said.{line_said};
 ghost use Rattle.certificate_lines.specs.Lines.{is_of_sums};
 ghost use Rattle.certificate_lines.specs.CertificateInCode.{meaning, claims};
-ghost use Rattle.certificate_lines.specs.Made.{no_lines, routine_line_of, lines_of_fact, lines_of_exit, MayAdd, with_lines, migrated, sites_at, sites_by, sited_by, with_sites};
+ghost use Rattle.certificate_lines.specs.Made.{no_lines, routine_line_of, lines_of_fact, lines_of_exit, MayAdd, with_lines, migrated, sites_at, sited_by, with_sites};
 
 use crate::{Certificate, NoMemory};
 use certificate_lines::{
-    CertifiedFact, Fields, LineRoom, LineStore, RoutineClaim, Subject, Version, next_line,
+    CertifiedFact, Fields, LineRoom, LineSets, LineStore, RoutineClaim, Subject, Version,
+    next_line,
 };
 use declaration::{Declaration, Owner};
 use std::alloc::{AllocError, Allocator};
@@ -144,15 +144,20 @@ impl<A: Allocator> Certificate<A> {
         }
     }
 
-    /// The sites that a line has by a declaration: those of a fact's address, or of an exit's routine.
-    fn sites_by<B: Allocator>(&self, declaration: &Declaration<B>, said: &Subject) -> WordSet
-        ensures { (sets : LineSets) → words result ≡
-            sites_by (declared declaration.now) (claims self.now) (line_said said.now sets) }
+    /// Gives a fact or an exit its sites by a declaration: those of the fact's address, or of the exit's routine.
+    fn give_sites<B: Allocator>(
+        &self,
+        declaration: &Declaration<B>,
+        said: &Subject,
+        sets: &mut LineSets,
+    )
+        ensures { line_said said.now sets.new ≡
+            sited_by (declared declaration.now) (claims self.now) (line_said said.now sets.old) }
     {
         match said {
-            Subject::Fact(address) => self.sites_at(declaration, *address),
-            Subject::Exit(entry, _) => self.sites_of(*entry),
-            _ => WordSet::empty(),
+            Subject::Fact(address) => sets.sites.set(&self.sites_at(declaration, *address)),
+            Subject::Exit(entry, _) => sets.sites.set(&self.sites_of(*entry)),
+            _ => {}
         }
     }
 
@@ -170,7 +175,7 @@ impl<A: Allocator> Certificate<A> {
         let mut fields = Fields::of(self.kept.text());
         while !fields.rest().is_empty() {
             let said = next_line(&mut fields, &mut room.sets);
-            room.sets.sites.set(&self.sites_by(declaration, &said));
+            self.give_sites(declaration, &said, &mut room.sets);
             room.spell(&said);
             if let Err(refused) = kept.add(&said, &room.sets, room.text.as_bytes()) {
                 return Err(refused);

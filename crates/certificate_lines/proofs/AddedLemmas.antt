@@ -1,21 +1,34 @@
 -- The text of lines that is added to a text.
-use Rattle.std.proofs.Common.{◌≡◌, Bool, ℕ, zero, suc, ◌+◌, ◌<◌, ◌≤◌, List, [], ◌∷◌, ◌++◌, length, map, take, get_or, ap, ◌∙◌, refl, sym, subst, arith, append_assoc, append-nil}
-use Rattle.std.proofs.lemmas.List.{take_all}
+use Rattle.std.proofs.Common.{◌≡◌, Bool, true, ℕ, zero, suc, ◌+◌, ◌*◌, ◌<◌, ◌≤◌, List, [], ◌∷◌, ◌++◌, length, map, take, get_or, ap, ◌∙◌, refl, sym, subst, arith, append_assoc, append-nil}
+use Rattle.std.specs.Prelude.{Result, Ok, Err, OnOk, OnErr, is_ok, if◌then◌else◌}
+use Rattle.std.proofs.lemmas.List.{take_all, take_at}
 use Rattle.wordset.specs.Words.{Words}
-use Rattle.domain.specs.Facts.{Fact}
+use Rattle.domain.specs.TrackedCells.{TrackedCell}
+use Rattle.domain.specs.Chains.{Chain}
+use Rattle.domain.specs.Facts.{Fact, Relation}
 use Rattle.domain.specs.Offsets.{offsets_in}
+use Rattle.domain.specs.CellsInCode.{cell_sets_of}
+use Rattle.domain.specs.FactInCode.{fact_in_code}
+use Rattle.domain.specs.declared.sum_fact.SumFact.{SumFact}
 use Rattle.certificate_lines.specs.declared.Version.TheVariants.{Three}
+use Rattle.certificate_lines.specs.declared.store.Head.{Head}
 use Rattle.certificate_lines.specs.declared.said.LineSets.{LineSets}
 use Rattle.certificate_lines.specs.declared.said.Subject.{Subject}
 use Rattle.certificate_lines.specs.declared.said.Subject.TheVariants as subject
 use Rattle.certificate_lines.specs.FieldSpelling.{Registers, ended}
 use Rattle.certificate_lines.specs.RisingLists.{Each}
-use Rattle.certificate_lines.specs.Lines.{Line, FactIs, ExitIs}
+use Rattle.certificate_lines.specs.Lines.{Line, FactIs, ExitIs, CellIs, SumIs, ChainIs, is_detail}
+use Rattle.certificate_lines.specs.LineOf.{has_form}
 use Rattle.certificate_lines.specs.Spelling.{line_text}
 use Rattle.certificate_lines.specs.Spelled.{all_ended}
-use Rattle.certificate_lines.specs.Stored.{Begins}
-use Rattle.certificate_lines.specs.Said.{set_in, registers_in, line_said, sites_if, registers_in_fact, head_line, TellsFact}
-use Rattle.certificate_lines.proofs.StoredLemmas.{both_ended}
+use Rattle.certificate_lines.specs.Stored.{lines_in, heads_from, heads_of, Begins, IsStored}
+use Rattle.certificate_lines.specs.Found.{IsLine}
+use Rattle.certificate_lines.specs.Made.{details_of}
+use Rattle.certificate_lines.specs.Said.{set_in, registers_in, line_said, sites_if, registers_in_fact, head_line, IsNumbered, TellsFact}
+use Rattle.certificate_lines.proofs.TextLemmas.{each_append}
+use Rattle.certificate_lines.proofs.SumFoundLemmas.{heads_more, heads_details}
+use Rattle.certificate_lines.proofs.StoredLemmas.{both_ended, stored, read_back}
+use Rattle.certificate_lines.proofs.SumReaderLemmas.{has_place}
 
 -- One text after another.
 pub both_added : (old now new xs ys : List ℕ) → now ≡ old ++ xs → new ≡ now ++ ys → new ≡ old ++ xs ++ ys
@@ -81,3 +94,89 @@ head_said (subject.Cell x) b f sets t d e h = absurd t
 head_said (subject.Sum x) b f sets t d e h = absurd t
 head_said (subject.Chain x) b f sets t d e h = absurd t
 head_said subject.End b f sets t d e h = absurd t
+
+-- What is kept after lines were added, or where that was refused.
+lines_added : (bytes new : List ℕ) (hs nhs : List Head) (more : List Line) → IsStored bytes hs → Each (IsLine Three) more → new ≡ bytes ++ all_ended Three more →
+    nhs ≡ hs ++ heads_from (length bytes) more → IsStored new nhs × (lines_in new ≡ lines_in bytes ++ more)
+lines_added bytes new hs nhs more s form is at =
+    let ls : List Line = lines_in bytes in
+    let text : new ≡ all_ended Three (ls ++ more) = is ∙ (ap (λ (x : List ℕ). x ++ all_ended Three more) s.text.is ∙ sym (both_ended ls more)) in
+    let long : length bytes ≡ length (all_ended Three ls) = ap length s.text.is in
+    let count : length bytes ≡ 0 + length (all_ended Three ls) = omega (arith, long) in
+    let heads : nhs ≡ heads_from 0 (ls ++ more) =
+    at ∙ (ap (λ (x : List Head). x ++ heads_from (length bytes) more) s.heads ∙ (ap (λ (n : ℕ). heads_from 0 ls ++ heads_from n more) count ∙ sym (heads_more 0 ls more))) in
+    let each : Each (IsLine Three) (ls ++ more) = each_append (IsLine Three) ls more s.text.form form in
+    (stored (ls ++ more) new nhs each text heads, read_back (ls ++ more) new each text)
+
+stays : (bytes mid new : List ℕ) (hs nhs : List Head) (start : ℕ) → IsStored bytes hs → start ≡ length bytes → Begins bytes mid → new ≡ take start mid → nhs ≡ hs →
+    IsStored new nhs × (lines_in new ≡ lines_in bytes)
+stays bytes mid new hs nhs start s count b is at =
+    let e : new ≡ bytes = is ∙ (ap (λ (x : List ℕ). take start x) b.1 ∙ take_at bytes b.0 start count) in
+    let kept : IsStored new nhs = rw (e, at) s in
+    (kept, ap lines_in e)
+
+pub either : {X E Y F : Type 0} (r : Result X E) (pushed : Result Y F) (u : Y) (bytes mid new : List ℕ) (hs nhs : List Head) (more : List Line) (start : ℕ) → IsStored bytes hs →
+    start ≡ length bytes → Each (IsLine Three) more → OnOk pushed (mid ≡ bytes ++ all_ended Three more) → Begins bytes mid →
+    OnOk r ((new ≡ mid) × (pushed ≡ Ok u) × (nhs ≡ hs ++ heads_from start more)) → OnErr r ((new ≡ take start mid) × (nhs ≡ hs)) →
+    IsStored new nhs × (lines_in new ≡ (if is_ok r then lines_in bytes ++ more else lines_in bytes))
+either (Ok x) pushed u bytes mid new hs nhs more start s count form whole front k n =
+    let w : mid ≡ bytes ++ all_ended Three more = rw k.1 at whole in
+    lines_added bytes new hs nhs more s form (k.0 ∙ w) (k.2 ∙ ap (λ (m : ℕ). hs ++ heads_from m more) count)
+either (Err e) pushed u bytes mid new hs nhs more start s count form whole front k n = stays bytes mid new hs nhs start s count front n.0 n.1
+
+pub when_ok : {X E Y : Type 0} (r : Result X E) (new a b : Y) → new ≡ (if is_ok r then a else b) → OnOk r (new ≡ a)
+when_ok (Ok x) new a b e = e
+when_ok (Err x) new a b e = tt
+
+pub when_err : {X E Y : Type 0} (r : Result X E) (new a b : Y) → new ≡ (if is_ok r then a else b) → OnErr r (new ≡ b)
+when_err (Ok x) new a b e = tt
+when_err (Err x) new a b e = e
+
+-- One line that is added.
+pub one_line : (old new line : List ℕ) (l : Line) → line ≡ line_text Three l → new ≡ old ++ ended line → new ≡ old ++ all_ended Three (l ∷ [])
+one_line old new line l e is = is ∙ ap (λ (x : List ℕ). old ++ x) (ap ended e ∙ sym (append-nil (ended (line_text Three l))))
+
+-- The line of a fact has a head, and its details have none.
+all_details : (f : SumFact 64 32) → Each (λ l. is_detail l ≡ true) (details_of f)
+all_details f =
+    each_append Detail (map CellIs cells ++ map SumIs (fact_in_code f).relations) (map ChainIs (fact_in_code f).chains)
+    (each_append Detail (map CellIs cells) (map SumIs (fact_in_code f).relations) (of_cells cells) (of_sums (fact_in_code f).relations)) (of_chains (fact_in_code f).chains)
+  where
+    cells : List TrackedCell
+    cells = cell_sets_of f.cells
+
+    abbrev Detail : Line → Type 0
+    Detail l = is_detail l ≡ true
+
+    of_cells : (xs : List TrackedCell) → Each (λ l. is_detail l ≡ true) (map CellIs xs)
+    of_cells [] = tt
+    of_cells (x ∷ xs) = (refl, of_cells xs)
+
+    of_sums : (xs : List Relation) → Each (λ l. is_detail l ≡ true) (map SumIs xs)
+    of_sums [] = tt
+    of_sums (x ∷ xs) = (refl, of_sums xs)
+
+    of_chains : (xs : List Chain) → Each (λ l. is_detail l ≡ true) (map ChainIs xs)
+    of_chains [] = tt
+    of_chains (x ∷ xs) = (refl, of_chains xs)
+
+pub head_heads : (said : Subject) (b : Bool) (f : SumFact 64 32) (sets : LineSets) (start : ℕ) → TellsFact said →
+    heads_of start (line_said said sets) ≡ heads_from start (head_line said b (fact_in_code f) ∷ details_of f)
+head_heads (subject.Fact a) b f sets start t =
+    ap (λ (x : List Head). (let h : Head = record { place = 4096 + a; start = start } in h) ∷ x) (sym (heads_details _ (details_of f) (all_details f)))
+head_heads (subject.Exit e o) b f sets start t =
+    ap (λ (x : List Head). (let h : Head = record { place = 8192 + (64 * e + o); start = start } in h) ∷ x) (sym (heads_details _ (details_of f) (all_details f)))
+head_heads (subject.Routine x n) b f sets start t = absurd t
+head_heads (subject.Cell x) b f sets start t = absurd t
+head_heads (subject.Sum x) b f sets start t = absurd t
+head_heads (subject.Chain x) b f sets start t = absurd t
+head_heads subject.End b f sets start t = absurd t
+
+pub numbered_head : (said : Subject) (b : Bool) (f : Fact) → TellsFact said → has_form Three (head_line said b f) ≡ true → IsNumbered said
+numbered_head (subject.Exit e o) b f t h = has_place Three (head_line (subject.Exit e o) b f) h
+numbered_head (subject.Fact a) b f t h = tt
+numbered_head (subject.Routine x n) b f t h = tt
+numbered_head (subject.Cell x) b f t h = tt
+numbered_head (subject.Sum x) b f t h = tt
+numbered_head (subject.Chain x) b f t h = tt
+numbered_head subject.End b f t h = tt

@@ -9,11 +9,12 @@ use Rattle.std.proofs.lemmas.List.Concat.{flat_map-append}
 use Rattle.certificate_lines.specs.declared.Version.TheVariants.{Three}
 use Rattle.certificate_lines.specs.declared.store.Head.{Head}
 use Rattle.certificate_lines.specs.FieldSpelling.{ended}
+use Rattle.certificate_lines.specs.RisingLists.{Each}
 use Rattle.certificate_lines.specs.Lines.{Line, End, is_detail}
 use Rattle.certificate_lines.specs.Order.{place_of_head, details_of_last}
 use Rattle.certificate_lines.specs.Spelling.{line_text}
 use Rattle.certificate_lines.specs.Spelled.{all_ended}
-use Rattle.certificate_lines.specs.Stored.{heads_from, heads_of}
+use Rattle.certificate_lines.specs.Stored.{heads_from}
 use Rattle.certificate_lines.specs.Found.{from_place, from_head, past, AreRising, begins_at, least_place, behind_details, first_with_details}
 
 -- The text of a line, and how many bytes it has with its line feed.
@@ -265,14 +266,18 @@ text_last i ls h a few =
           sym (ap (λ (m : List Line). all_ended Three (first_with_details m)) a.there),
     )
 
--- The heads with a line more.
-pub heads_more : (start : ℕ) (ls : List Line) (l : Line) → heads_from start (ls ++ l ∷ []) ≡ heads_from start ls ++ heads_of (start + length (all_ended Three ls)) l
-heads_more start [] l = let z : start + 0 ≡ start = omega arith in rw z refl
-heads_more start (x ∷ ls) l = elim (cases_Bool (is_detail x)) [
-  | inl t ↦ rw t (heads_more (start + length (text_of x)) ls l ∙ ap (λ (n : ℕ). heads_from (start + length (text_of x)) ls ++ heads_of n l) far)
+-- The heads with more lines, of which details have none.
+pub heads_more : (start : ℕ) (ls ms : List Line) → heads_from start (ls ++ ms) ≡ heads_from start ls ++ heads_from (start + length (all_ended Three ls)) ms
+heads_more start [] ms = let z : start + 0 ≡ start = omega arith in rw z refl
+heads_more start (x ∷ ls) ms = elim (cases_Bool (is_detail x)) [
+  | inl t ↦ rw t (heads_more (start + length (text_of x)) ls ms ∙ ap (λ (n : ℕ). heads_from (start + length (text_of x)) ls ++ heads_from n ms) far)
   | inr f ↦ rw f (ap (λ (y : List Head). record { place = place_of_head x; start = start } ∷ y)
-      (heads_more (start + length (text_of x)) ls l ∙ ap (λ (n : ℕ). heads_from (start + length (text_of x)) ls ++ heads_of n l) far))
+      (heads_more (start + length (text_of x)) ls ms ∙ ap (λ (n : ℕ). heads_from (start + length (text_of x)) ls ++ heads_from n ms) far))
 ]
   where
     far : start + length (text_of x) + length (all_ended Three ls) ≡ start + length (all_ended Three (x ∷ ls))
     far = omega (arith, length-append (text_of x) (all_ended Three ls))
+
+pub heads_details : (start : ℕ) (ls : List Line) → Each (λ l. is_detail l ≡ true) ls → heads_from start ls ≡ []
+heads_details start [] h = refl
+heads_details start (l ∷ ls) h = rw h.0 (heads_details (start + length (text_of l)) ls h.1)

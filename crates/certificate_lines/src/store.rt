@@ -99,8 +99,7 @@ fn finish<A: Allocator>(
     said: &Subject,
     pushed: Result<(), AllocError>,
 ) -> Result<(), AllocError>
-    requires numbers { IsNumbered said.now }
-    requires start { start ≤ length text.old.items }
+    requires { IsNumbered said.now }
     ensures kept { OnOk result ((text.new.items ≡ text.old.items) × (pushed ≡ Ok ()) ×
         ((sets : LineSets) → heads.new.items ≡ heads.old.items ++ heads_of start (line_said said.now sets))) }
     ensures same { OnErr result ((text.new.items ≡ take start text.old.items) × (heads.new.items ≡ heads.old.items)) }

@@ -1,19 +1,18 @@
 -- The laws of the spelling of certificates of any version.
-use Rattle.std.proofs.Common.{◌≡◌, ℕ, ◌<◌, ◌≤◌, ◌||◌, Bool, true, false, List, [], ◌∷◌, ◌++◌, length, take, Ok, Err, refl, ap, ◌∙◌, sym, subst, inl, inr, append-nil}
+use Rattle.std.proofs.Common.{◌≡◌, ℕ, ◌<◌, ◌≤◌, ◌||◌, Bool, true, false, List, [], ◌∷◌, ◌++◌, length, take, Ok, refl, ap, ◌∙◌, sym, subst, inl, inr, append-nil}
 use Rattle.std.specs.List.{list_any, join_with_byte}
 use Rattle.std.proofs.lemmas.Bool.{true≢false, cases_lt, cases_Bool, lt-ltb}
 use Rattle.std.proofs.lemmas.List.Splits.{join_with_byte-slice_split}
 use Rattle.certificate_lines.specs.Pieces.{most_bytes, pieces}
-use Rattle.certificate_lines.specs.declared.Version.{Version}
 use Rattle.certificate_lines.specs.Lines.{Line, is_end}
 use Rattle.certificate_lines.specs.Order.{oldest}
-use Rattle.certificate_lines.specs.Reading.{Text, Start, After, at_last, answer_from, reading}
+use Rattle.certificate_lines.specs.Reading.{Text, Start, answer_from, reading}
 use Rattle.certificate_lines.specs.Laws.{bytes_of}
-use Rattle.certificate_lines.specs.Found.{newest_first, AreInOrder, Follow}
+use Rattle.certificate_lines.specs.Found.{newest_first, AreInOrder}
 use Rattle.certificate_lines.specs.Serving.{front}
 use Rattle.certificate.specs.Exact.{AreLines, SpellingLaw, IsTextOf, ReadingLaw}
 use Rattle.certificate_lines.proofs.SumLineLemmas.{spelled_is_read}
-use Rattle.certificate_lines.proofs.SumTextLemmas.{Whole, Read, line_sound, from_start, bytes_of_read, none_long, few_read, front_oldest}
+use Rattle.certificate_lines.proofs.SumTextLemmas.{Read, line_sound, from_start, bytes_of_read, none_long, few_read, front_oldest}
 use Rattle.certificate.proofs.SumAnswerLemmas.{front_on, oldest_newest, end_read, fault_of_bytes}
 use Rattle.certificate_lines.proofs.SumWholeLemmas.{newest_both, follows, followed}
 

@@ -1,13 +1,12 @@
 -- What a certificate says with sites is what it said without them.
-use Rattle.std.proofs.Common.{◌≡◌, ℕ, ◌==◌, ◌&&◌, true, false, Option, List, [], ◌∷◌, map, refl, ap, inl, inr}
+use Rattle.std.proofs.Common.{◌≡◌, ℕ, ◌==◌, ◌&&◌, true, List, [], ◌∷◌, map, refl, ap, inl, inr}
 use Rattle.std.proofs.lemmas.Bool.{cases_Bool, and_parts, eqb-true}
 use Rattle.declaration.specs.Declaration.{Declaration}
-use Rattle.domain.specs.Facts.{Fact}
 use Rattle.wordset.specs.Words.{Words}
-use Rattle.certificate_lines.specs.FieldSpelling.{RoutineLine, Registers}
+use Rattle.certificate_lines.specs.FieldSpelling.{Registers}
 use Rattle.certificate_lines.specs.Lines.{Line, RoutineIs, FactIs, ExitIs, CellIs, SumIs, ChainIs, End}
 use Rattle.certificate_lines.specs.Certificate.{Certificate}
-use Rattle.certificate_lines.specs.Reading.{Text, cells_under, relations_under, chains_under, fact_said, all_offsets, facts_at, exits_at, routine_at, is_listed, rank_in, sites_in, writes_in, certificate_of}
+use Rattle.certificate_lines.specs.Reading.{cells_under, relations_under, chains_under, fact_said, all_offsets, facts_at, exits_at, routine_at, is_listed, rank_in, sites_in, writes_in, certificate_of}
 use Rattle.certificate_lines.specs.Made.{sites_at, sited_by, with_sites, given_sites, SitesAreAdded}
 
 module _ (d : Declaration) (c : Certificate) where

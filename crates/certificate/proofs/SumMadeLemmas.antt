@@ -2,7 +2,7 @@
 use Rattle.std.proofs.Common.{◌≡◌, ℕ, ◌<◌, ◌≤◌, Bool, true, false, List, [], ◌∷◌, ◌++◌, length, Result, Ok, Err, refl, ap, ◌∙◌, sym, subst, inl, inr, append_assoc}
 use Rattle.std.specs.Prelude.{if◌then◌else◌, codes, map, nat_lt, nat_le, OnOk, OnErr}
 use Rattle.std.specs.List.{list_any}
-use Rattle.std.proofs.lemmas.Bool.{true≢false, cases_Bool, and_parts, ltb-true, leb-true, le-ltb}
+use Rattle.std.proofs.lemmas.Bool.{true≢false, cases_Bool, and_parts, leb-true, le-ltb}
 use Rattle.wordset.specs.Words.{Words, all_words, some_below}
 use Rattle.domain.specs.TrackedCells.{TrackedCell}
 use Rattle.domain.specs.Chains.{Chain}

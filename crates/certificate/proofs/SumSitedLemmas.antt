@@ -1,9 +1,8 @@
 -- A certificate with sites by a declaration.
-use Rattle.std.proofs.Common.{◌≡◌, ℕ, ◌+◌, ◌<◌, ◌≤◌, ◌==◌, Bool, true, false, ◌&&◌, ◌||◌, List, [], ◌∷◌, ◌++◌, length, drop, Option, Some, None, refl, ap, ◌∙◌, sym, subst, inl, inr, arith, append_assoc, append-nil}
+use Rattle.std.proofs.Common.{◌≡◌, ℕ, ◌+◌, ◌<◌, ◌≤◌, ◌==◌, Bool, true, false, ◌&&◌, ◌||◌, List, [], ◌∷◌, ◌++◌, Option, Some, None, refl, ap, ◌∙◌, sym, subst, inl, inr, arith, append_assoc, append-nil}
 use Rattle.std.specs.Prelude.{if◌then◌else◌, map, nat_lt}
 use Rattle.std.specs.List.{list_any}
 use Rattle.std.proofs.Math.Path.{fun_ext}
-use Rattle.std.proofs.lemmas.List.{drop_all}
 use Rattle.std.proofs.lemmas.Bool.{true≢false, cases_Bool, and_parts, ltb-true, lt-ltb, ne_eqb, eqb-true}
 use Rattle.wordset.specs.Words.{Words, nothing, one, has_some, some_below}
 use Rattle.wordset.proofs.Tests.{IsSome, some_from, some_to, some_none_of, and_both, and_first, and_second, both_ways}
@@ -20,7 +19,7 @@ use Rattle.certificate_lines.specs.Laws.{SitesFit, MqFits, RegistersFit, LineFit
 use Rattle.certificate_lines.specs.Certificate.{Certificate}
 use Rattle.certificate_lines.specs.Reading.{routine_at, is_listed, sites_in}
 use Rattle.certificate_lines.specs.Found.{IsLine, AreInOrder, newest_first, IsWhole}
-use Rattle.certificate_lines.specs.Said.{sited_line, IsNumbered}
+use Rattle.certificate_lines.specs.Said.{sited_line}
 use Rattle.certificate_lines.specs.Made.{sites_by, sited_by}
 use Rattle.certificate_lines.specs.Spelling.{line_text}
 use Rattle.certificate_lines.specs.Spelled.{all_ended}
@@ -29,7 +28,7 @@ use Rattle.certificate_lines.specs.Stored.{lines_in, IsText}
 use Rattle.certificate_lines.specs.CertificateInCode.{Kept, claims}
 use Rattle.certificate.proofs.SumMadeLemmas.{mq_one}
 use Rattle.certificate_lines.proofs.SumWholeLemmas.{whole}
-use Rattle.certificate_lines.proofs.SumReaderLemmas.{has_place, formed}
+use Rattle.certificate_lines.proofs.SumReaderLemmas.{formed}
 use Rattle.certificate.proofs.SumNamedLemmas.{routine_end}
 
 -- The sites of a routine by its line.

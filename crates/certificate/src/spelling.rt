@@ -1,6 +1,6 @@
 //! The text of a certificate as it is written.
 
-ghost use Rattle.std.specs.Prelude.{◌≡◌, ◌++◌, codes, OnOk, OnErr, is_err, true, false};
+ghost use Rattle.std.specs.Prelude.{◌≡◌, ◌++◌, codes, OnOk, OnErr, is_err, false};
 ghost use Rattle.std.specs.Io.KnownBytes.{Appends};
 ghost use Rattle.streams.specs.Bytes.{AppendsFront};
 ghost use Rattle.certificate_lines.specs.FieldSpelling.{ended};

@@ -1,5 +1,5 @@
 -- The texts of a routine's line and a cell's, field by field.
-use Rattle.std.proofs.Common.{◌≡◌, List, [], ◌++◌, append_assoc, append-nil}
+use Rattle.std.proofs.Common.{◌≡◌, [], ◌++◌, append_assoc, append-nil}
 use Rattle.std.specs.Prelude.{codes}
 use Rattle.word12.specs.Words.{octal_text}
 use Rattle.domain.specs.TrackedCells.{TrackedCell}

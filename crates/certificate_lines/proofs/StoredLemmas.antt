@@ -1,5 +1,6 @@
 -- Lines that are kept as their text.
-use Rattle.std.proofs.Common.{◌≡◌, ℕ, zero, suc, inl, inr, ◌+◌, ◌<◌, ◌≤◌, ◌==◌, true, false, List, [], ◌∷◌, ◌++◌, length, get_or, refl, ap, ◌∙◌, sym, subst, arith, append_assoc, append-nil, length-append}
+use Rattle.std.proofs.Common.{◌≡◌, ℕ, zero, suc, inl, inr, ◌+◌, ◌-◌, ◌<◌, ◌≤◌, ◌==◌, true, false, List, [], ◌∷◌, ◌++◌, length, take, drop, get_or, refl, ap, ◌∙◌, sym, subst, arith, length-append}
+use Rattle.std.specs.Prelude.{slice_range}
 use Rattle.std.specs.List.{slice_split}
 use Rattle.std.proofs.lemmas.Bool.{false≢true, eqb-true, cases_Bool}
 use Rattle.std.specs.List.Sorted.{IsNonDecreasingBy}
@@ -16,15 +17,15 @@ use Rattle.certificate_lines.specs.Lines.{Line, is_detail}
 use Rattle.certificate_lines.specs.LineOf.{said_by}
 use Rattle.certificate_lines.specs.Spelling.{line_text}
 use Rattle.certificate_lines.specs.Spelled.{all_ended}
-use Rattle.certificate_lines.specs.Stored.{lines_by, lines_in, heads_from, heads_of, IsText, IsStored}
+use Rattle.certificate_lines.specs.Stored.{lines_by, lines_in, heads_from, IsText, IsStored}
 use Rattle.certificate_lines.specs.Order.{details_of_last}
 use Rattle.certificate_lines.specs.Found.{IsLine, AreRising, from_head, from_place, first_with_details}
-use Rattle.certificate_lines.proofs.TextLemmas.{seam, each_append}
+use Rattle.certificate_lines.proofs.TextLemmas.{seam}
 use Rattle.certificate_lines.proofs.LineOfLemmas.{split_at}
 use Rattle.certificate_lines.proofs.SumLineLemmas.{said_back}
 use Rattle.certificate_lines.proofs.SumTextLemmas.{feeds}
 use Rattle.certificate_lines.proofs.SumLengthLemmas.{line_feed}
-use Rattle.certificate_lines.proofs.SumFoundLemmas.{HeadAt, head_at, head_none, heads_more, rises, search_told}
+use Rattle.certificate_lines.proofs.SumFoundLemmas.{HeadAt, head_at, text_between, text_last, head_none, rises, search_told}
 
 -- A line, and those after it.
 first_by : (line : List ℕ) (n : ℕ) (ps : List (List ℕ)) → length ps ≡ n + 1 → lines_by (line ∷ ps) ≡ said_by Three (words_in line) ∷ lines_by ps
@@ -134,3 +135,24 @@ pub no_text : (bytes : List ℕ) (heads : List Head) → IsStored bytes heads �
 no_text bytes heads s i few =
     let none : from_head i (lines_in bytes) ≡ [] = head_none 0 i (lines_in bytes) (kept_count bytes heads s i few) in
     sym (ap (λ (x : List Line). all_ended Three (first_with_details x)) none)
+
+pub last_piece : (bytes : List ℕ) (heads : List Head) → IsStored bytes heads → (i n : ℕ) (h : Head) → i < length heads → h ≡ get_or heads i h → length heads ≤ i + 1 → n ≡ length bytes →
+    (h.start ≤ n) × (slice_range bytes h.start n ≡ all_ended Three (first_with_details (from_head i (lines_in bytes))))
+last_piece bytes heads s i n h few is last e =
+    let ls : List Line = lines_in bytes in
+    let t = text_last i ls h (kept_at bytes heads s i h few is) (kept_count bytes heads s (i + 1) last) in
+    let z : length bytes ≡ length (all_ended Three ls) = ap length s.text.is in
+    let low : h.start ≤ length (all_ended Three ls) = t.0 in (
+      omega (arith, e, z, low),
+      ap (λ (k : ℕ). take (k - h.start) (drop h.start bytes)) (e ∙ z) ∙ (ap (λ (x : List ℕ). take (length (all_ended Three ls) - h.start) (drop h.start x)) s.text.is ∙ t.1),
+    )
+
+pub next_piece : (bytes : List ℕ) (heads : List Head) → IsStored bytes heads → (i : ℕ) (h k : Head) → i < length heads → h ≡ get_or heads i h → i + 1 < length heads →
+    k ≡ get_or heads (i + 1) k →
+    (h.start ≤ k.start) × (k.start ≤ length bytes) × (slice_range bytes h.start k.start ≡ all_ended Three (first_with_details (from_head i (lines_in bytes))))
+next_piece bytes heads s i h k few is more at =
+    let ls : List Line = lines_in bytes in
+    let t = text_between i ls h k (kept_at bytes heads s i h few is) (kept_at bytes heads s (i + 1) k more at) in
+    let z : length bytes ≡ length (all_ended Three ls) = ap length s.text.is in
+    let high : k.start ≤ length (all_ended Three ls) = t.1 in
+    (t.0, omega (arith, z, high), ap (λ (x : List ℕ). take (k.start - h.start) (drop h.start x)) s.text.is ∙ t.2)

@@ -1,10 +1,10 @@
 -- Heads, which are lines that are no details, and how they are found by their places.
-use Rattle.std.proofs.Common.{◌≡◌, ◌⊎◌, ℕ, ◌+◌, ◌-◌, ◌<◌, ◌≤◌, ◌==◌, true, false, List, [], ◌∷◌, ◌++◌, length, get_or, take, drop, zero, suc, refl, ap, ◌∙◌, sym, inl, inr, arith, append_assoc, append-nil, length-append}
+use Rattle.std.proofs.Common.{◌≡◌, ◌⊎◌, ℕ, ◌+◌, ◌-◌, ◌<◌, ◌≤◌, ◌==◌, true, false, List, [], ◌∷◌, ◌++◌, length, get_or, take, drop, zero, suc, refl, ap, ◌∙◌, sym, inl, inr, arith, length-append}
 use Rattle.std.specs.Prelude.{nat_le}
 use Rattle.std.specs.List.Sorted.{IsNonDecreasingBy}
-use Rattle.std.proofs.lemmas.Bool.{true≢false, cases_Bool}
+use Rattle.std.proofs.lemmas.Bool.{cases_Bool}
 use Rattle.std.proofs.lemmas.Bool.Decides.{nat_tests}
-use Rattle.std.proofs.lemmas.List.{drop_all, drop_at, take_at, length-drop}
+use Rattle.std.proofs.lemmas.List.{drop_all, take_at, length-drop}
 use Rattle.std.proofs.lemmas.List.Concat.{flat_map-append}
 use Rattle.certificate_lines.specs.declared.Version.TheVariants.{Three}
 use Rattle.certificate_lines.specs.declared.store.Head.{Head}
@@ -15,7 +15,7 @@ use Rattle.certificate_lines.specs.Order.{place_of_head, details_of_last}
 use Rattle.certificate_lines.specs.Spelling.{line_text}
 use Rattle.certificate_lines.specs.Spelled.{all_ended}
 use Rattle.certificate_lines.specs.Stored.{heads_from}
-use Rattle.certificate_lines.specs.Found.{from_place, from_head, past, AreRising, begins_at, least_place, behind_details, first_with_details}
+use Rattle.certificate_lines.specs.Found.{from_place, from_head, AreRising, begins_at, least_place, behind_details, first_with_details}
 
 -- The text of a line, and how many bytes it has with its line feed.
 abbrev text_of : Line → List ℕ

@@ -1,14 +1,13 @@
 -- Lines of all versions read field by field.
-use Rattle.std.proofs.Common.{◌≡◌, ℕ, ◌<◌, ◌≤◌, ◌&&◌, true, false, List, [], ◌∷◌, ◌++◌, length, inl, inr, refl, ap, ◌∙◌, sym, arith, append_assoc, append-nil}
-use Rattle.std.specs.Prelude.{codes, flat_map, nat_lt, nat_le}
+use Rattle.std.proofs.Common.{◌≡◌, ℕ, ◌<◌, ◌≤◌, ◌&&◌, true, false, List, [], ◌∷◌, ◌++◌, length, inl, inr, refl, ap, ◌∙◌, sym, arith, append_assoc}
+use Rattle.std.specs.Prelude.{codes, flat_map, nat_le}
 use Rattle.std.specs.List.{list_all}
-use Rattle.std.proofs.lemmas.Bool.{true≢false, false≢true, and_parts, cases_Bool, cases_lt, leb-true, ltb-true, le-ltb, ne_eqb}
+use Rattle.std.proofs.lemmas.Bool.{true≢false, and_parts, cases_Bool, cases_lt, leb-true, le-ltb, ne_eqb}
 use Rattle.word12.specs.Words.{octal_text}
 use Rattle.wordset.specs.Words.{Words, one, has_some}
-use Rattle.wordset.specs.Lanes.{words}
 use Rattle.wordset.proofs.SetLemmas.{words_past}
 use Rattle.wordset.proofs.Tests.{some_none_of}
-use Rattle.domain.specs.Locations.{Location, Ac, Cell}
+use Rattle.domain.specs.Locations.{Location}
 use Rattle.domain.specs.Terms.{Sum, difference_of}
 use Rattle.domain.specs.Chains.{Chain, Step, Operates, Ands, Adds}
 use Rattle.domain.specs.Facts.{Relation}
@@ -21,7 +20,7 @@ use Rattle.certificate_lines.specs.FieldSpelling.{RoutineLine, Registers, set_te
 use Rattle.certificate_lines.specs.RisingLists.{EndsBefore, place_of_name}
 use Rattle.certificate_lines.specs.FieldsLeft.{EndsField, EndsLine}
 use Rattle.certificate_lines.specs.Lines.{is_of_sums, RoutineIs, FactIs, ExitIs, CellIs, SumIs, ChainIs}
-use Rattle.certificate_lines.specs.Spelling.{sites_text, mq_text, words_text, offset_text, offsets_line, sum_text, word_text, equation_line, relation_line, step_text, chain_line, line_text}
+use Rattle.certificate_lines.specs.Spelling.{sites_text, mq_text, words_text, offset_text, offsets_line, sum_text, equation_line, relation_line, step_text, chain_line, line_text}
 use Rattle.certificate_lines.specs.LineOf.{is_relation, is_step}
 use Rattle.certificate_lines.specs.Fields.{AreSteps}
 use Rattle.certificate_lines.specs.Laws.{IsEquation, RelationFits}

@@ -1,18 +1,19 @@
 -- The text of a line of any version while it is written.
-use Rattle.std.proofs.Common.{◌≡◌, ℕ, ◌+◌, ◌<◌, ◌≤◌, ◌==◌, ◌||◌, true, false, List, [], ◌∷◌, ◌++◌, length, map, take, get_or, refl, ap, ◌∙◌, sym, inl, inr, arith, append_assoc, append-nil}
+use Rattle.std.proofs.Common.{◌≡◌, ℕ, ◌+◌, ◌<◌, ◌≤◌, ◌==◌, ◌||◌, true, false, List, [], ◌∷◌, ◌++◌, length, map, take, drop, get_or, refl, ap, ◌∙◌, sym, subst, inl, inr, arith, append_assoc, append-nil}
 use Rattle.std.specs.Prelude.{codes, flat_map, IsTrue}
 use Rattle.std.proofs.lemmas.Bool.{false≢true, cases_lt, cases_Bool, eq-eqb, ne_eqb}
 use Rattle.std.proofs.lemmas.List.{take_all, take_more, map_push}
 use Rattle.std.proofs.lemmas.List.Concat.{flat_map-append}
 use Rattle.wordset.specs.Words.{Words, some_below}
 use Rattle.wordset.proofs.Tests.{some_none_of, none_of_some}
-use Rattle.domain.specs.InCode.{summand_of}
+use Rattle.domain.specs.Terms.{Sum}
+use Rattle.domain.specs.InCode.{term_of, summand_of}
 use Rattle.domain.specs.ChainsInCode.{step_of}
 use Rattle.domain.specs.declared.chains.Step.{Step}
 use Rattle.domain.specs.declared.terms.Summand.{Summand}
 use Rattle.certificate_lines.specs.FieldSpelling.{begins, ends, mark, marks, digits, rank_text, offset_set_text, offsets_text}
 use Rattle.certificate_lines.specs.LineText.{Adds}
-use Rattle.certificate_lines.specs.Spelling.{coefficient_text, further_text, step_text}
+use Rattle.certificate_lines.specs.Spelling.{term_text, coefficient_text, further_text, sum_text, step_text}
 use Rattle.certificate_lines.proofs.SpelledLemmas.{joined, none}
 use Rattle.certificate_lines.proofs.SetLemmas.{marks_more}
 
@@ -90,6 +91,14 @@ summand_written old now new ss i s h at a b = rw grown (joined old now new (flat
 pub summands_written : (old now : List ℕ) (ss : List Summand) (i : ℕ) → length ss ≤ i → Adds old now (flat_map further_text (map summand_of (take i ss))) →
     Adds old now (flat_map further_text (map summand_of ss))
 summands_written old now ss i h a = rw (take_all i ss h) at a
+
+-- A sum, its first term and then the others.
+pub sum_written : (old mid new : List ℕ) (ss : List Summand) (s : Sum) (x : Summand) (rest : List Summand) → map summand_of ss ≡ s → 0 < length ss → x ≡ get_or ss 0 x → rest ≡ drop 1 ss →
+    Adds old mid (term_text (term_of x.term)) → Adds mid new (flat_map further_text (map summand_of rest)) → Adds old new (sum_text s)
+sum_written old mid new [] s x rest e some at is a b = absurd (omega arith)
+sum_written old mid new (y ∷ ys) s x rest e some at is a b =
+    rw (← e) (joined old mid new (term_text (term_of y.term)) (flat_map further_text (map summand_of ys)) (subst (λ (k : Summand). Adds old mid (term_text (term_of k.term))) at a)
+    (subst (λ (k : List Summand). Adds mid new (flat_map further_text (map summand_of k))) is b))
 
 -- The text of a fact and of an exit, of which the sites and the registers are one part.
 pub fact_written : (s w t : List ℕ) (o a b c d e : List ℕ) (x y z : List ℕ) → Adds o a x → Adds a b y → Adds b c (s ++ w) → Adds c d z → Adds d e t → Adds o e (x ++ y ++ s ++ w ++ z ++ t)

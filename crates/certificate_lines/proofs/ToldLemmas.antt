@@ -1,5 +1,5 @@
 -- Details that are told one after another.
-use Rattle.std.proofs.Common.{◌≡◌, ℕ, true, List, [], ◌∷◌, subst}
+use Rattle.std.proofs.Common.{◌≡◌, ◌==◌, ◌∙◌, ℕ, true, false, List, [], ◌∷◌, length, ap, subst}
 use Rattle.domain.specs.declared.sum_fact.SumFact.{SumFact}
 use Rattle.certificate_lines.specs.declared.Version.TheVariants.{Three}
 use Rattle.certificate_lines.specs.RisingLists.{Each}
@@ -9,7 +9,23 @@ use Rattle.certificate_lines.specs.Spelled.{all_ended}
 use Rattle.certificate_lines.specs.Stored.{lines_in, IsText}
 use Rattle.certificate_lines.specs.Found.{IsLine}
 use Rattle.certificate_lines.specs.Adding.{Adds, AddsAll, HasRoomFor, HasRoomUnder}
+use Rattle.certificate_lines.proofs.StoredLemmas.{first_left}
 use Rattle.certificate_lines.proofs.SumDetailLemmas.{AddedSofar, none_sofar, sofar_more, room_left, none_left}
+
+-- The first line of a text of lines.
+pub record TextHead (text : List ℕ) : Type 0 where
+  pub line : Line
+  pub rest : List Line
+  pub is : lines_in text ≡ line ∷ rest
+  pub first : IsLine Three line
+  pub form : Each (IsLine Three) rest
+  pub spelled : text ≡ all_ended Three (line ∷ rest)
+
+pub text_head : (text : List ℕ) → IsText text → false ≡ (length text == 0) → TextHead text
+text_head text t some =
+    let f = first_left text (lines_in text) t.is some in
+    let each : Each (IsLine Three) (f.line ∷ f.rest) = rw f.is at t.form in
+    record { line = f.line; rest = f.rest; is = f.is; first = each.0; form = each.1; spelled = t.is ∙ ap (all_ended Three) f.is }
 
 -- Some details were told, and the text of the others is left.
 pub record DetailsLeft (old now : SumFact 64 32) (all : List Line) (text : List ℕ) : Type 0 where

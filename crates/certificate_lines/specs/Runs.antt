@@ -1,6 +1,6 @@
 -- Sets by their runs.
 use Rattle.std.specs.Prelude.{ℕ, ◌+◌, ◌<◌, ◌≤◌, List, [], ◌∷◌}
-use Rattle.wordset.specs.Words.{Words, all_words, nothing, between, union, meet}
+use Rattle.wordset.specs.Words.{Words, between, union}
 use Rattle.certificate_lines.specs.declared.runs.Run.{Run}
 
 -- A set with the words of runs.

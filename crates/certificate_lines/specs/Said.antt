@@ -1,5 +1,5 @@
 -- What is read of a line or told of a fact, and the line that says it.
-use Rattle.std.specs.Prelude.{ℕ, ◌<◌, Bool, true, false, if◌then◌else◌}
+use Rattle.std.specs.Prelude.{◌<◌, Bool, true, false, if◌then◌else◌}
 use Rattle.wordset.specs.Words.{Words, between, nothing}
 use Rattle.wordset.specs.Lanes.{words}
 use Rattle.wordset.specs.Links.{links_of}

@@ -1,9 +1,9 @@
 //! The fields of a line. They are read loosely: each is read right where it stands in its own spelling, and what a line of
 //! other bytes says does not matter, since it is spelled and compared with these bytes.
 
-ghost use Rattle.std.specs.Prelude.{ℕ, ◌≡◌, ◌+◌, ◌<◌, ◌≤◌, ◌%◌, ◌↔◌, List, [], ◌∷◌, ◌++◌, length, map, flat_map, codes, IsTrue, true, false};
+ghost use Rattle.std.specs.Prelude.{ℕ, ◌≡◌, ◌+◌, ◌<◌, ◌≤◌, ◌%◌, ◌↔◌, List, [], ◌∷◌, ◌++◌, length, flat_map, codes, true, false};
 ghost use Rattle.word12.specs.Words.{octal_text};
-ghost use Rattle.wordset.specs.Words.{Words, union, between, some_below, has_some};
+ghost use Rattle.wordset.specs.Words.{Words, union, between, has_some};
 ghost use Rattle.wordset.specs.Lanes.{words};
 ghost use Rattle.wordset.specs.Links.{links_of};
 ghost use Rattle.domain.specs.Locations.{Location as Named};

@@ -285,6 +285,14 @@ pub fn read_line(version: Version, fields: &mut Fields<'_>, sets: &mut LineSets)
     }
 }
 
+/// Whether a line is this text.
+fn is_text(text: &LineText, line: &[u8]) -> bool
+    ensures same { result ≡ true → text.now.bytes.items ≡ line.now }
+    ensures only { text.now.bytes.items ≡ line.now → result ≡ true }
+{
+    text.as_bytes() == line
+}
+
 /// What a line says, if its bytes are the spelling of a line that there is. It is given without its line feed, and what it says
 /// is spelled in the room for the text of a line.
 pub fn checked_line(
@@ -303,9 +311,8 @@ pub fn checked_line(
         return None;
     }
     text.put_line(version, &said, sets);
-    if text.as_bytes() == line {
-        Some(said)
-    } else {
-        None
+    if !is_text(text, line) {
+        return None;
     }
+    Some(said)
 }

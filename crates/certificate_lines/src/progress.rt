@@ -1,9 +1,9 @@
 //! The lines of a certificate, one after another, in all versions.
 
-ghost use Rattle.std.specs.Prelude.{◌≡◌, ◌+◌, ◌<◌, ◌≤◌, ◌^◌, List, [], ◌∷◌, length, true, false, IfOk};
+ghost use Rattle.std.specs.Prelude.{◌≡◌, ◌+◌, ◌<◌, ◌≤◌, ◌^◌, List, [], ◌∷◌, true, false, IfOk};
 ghost use Rattle.certificate_lines.specs.declared.said.LineSets.{LineSets};
 ghost use Rattle.certificate_lines.specs.Lines.{Line as SaidLine, is_detail};
-ghost use Rattle.certificate_lines.specs.Order.{may_stand, place_of_head, comes_in_order, has_room, may_be_level, heads, follows_newest};
+ghost use Rattle.certificate_lines.specs.Order.{may_stand, comes_in_order, has_room, may_be_level, heads, follows_newest};
 ghost use Rattle.certificate_lines.specs.Progress.{Tracks, TracksOthers, Fits, Takes};
 ghost use Rattle.certificate_lines.specs.Line.{Spells};
 ghost use Rattle.certificate_lines.specs.Said.{line_said, IsNumbered};

@@ -1,7 +1,7 @@
 //! Sets of words as the lines of a certificate have them: most are one run, which is words in a row.
 
 ghost use Rattle.std.specs.Prelude.{◌≡◌, true, false, not};
-ghost use Rattle.wordset.specs.Words.{all_words, between, has_some, nothing, only};
+ghost use Rattle.wordset.specs.Words.{between, has_some, nothing, only};
 ghost use Rattle.wordset.specs.Lanes.{words};
 ghost use Rattle.domain.specs.Brief.{brief_words};
 ghost use Rattle.certificate_lines.specs.RisingLists.{EndsBefore};

@@ -1,7 +1,7 @@
 //! The lines of a certificate as they are kept: their text in version 3, which all versions can be told from, and where each
 //! routine, fact and exit begins.
 
-ghost use Rattle.std.specs.Prelude.{◌≡◌, ◌+◌, ◌<◌, ◌≤◌, List, [], ◌∷◌, ◌++◌, length, map, take, true, is_ok, Ok, OnOk, OnErr, if◌then◌else◌};
+ghost use Rattle.std.specs.Prelude.{◌≡◌, ◌+◌, ◌<◌, ◌≤◌, List, [], ◌∷◌, ◌++◌, length, slice_range, map, take, true, is_ok, Ok, OnOk, OnErr, if◌then◌else◌};
 ghost use Rattle.domain.specs.CellsInCode.{cell_set_of};
 ghost use Rattle.domain.specs.RelationsInCode.{relation_of};
 ghost use Rattle.domain.specs.ChainsInCode.{chain_of};
@@ -81,6 +81,15 @@ impl LineRoom {
     }
 }
 
+/// The bytes from one place up to another.
+fn piece(text: &[u8], from: usize, to: usize) -> &[u8]
+    requires order { from ≤ to }
+    requires within { to ≤ length text.now }
+    ensures { result.now ≡ slice_range text.now from to }
+{
+    &text[from..to]
+}
+
 /// Adds a line with its line feed, or some of it where that is refused.
 fn push_line<A: Allocator>(text: &mut Vec<u8, A>, line: &[u8]) -> Result<(), AllocError>
     ensures whole { OnOk result (text.new.items ≡ text.old.items ++ ended line.now) }
@@ -100,7 +109,7 @@ fn finish<A: Allocator>(
     pushed: Result<(), AllocError>,
 ) -> Result<(), AllocError>
     requires { IsNumbered said.now }
-    ensures kept { OnOk result ((text.new.items ≡ text.old.items) × (pushed ≡ Ok ()) ×
+    ensures kept { OnOk result ((text.new.items ≡ text.old.items) × (pushed ≡ Ok tt) ×
         ((sets : LineSets) → heads.new.items ≡ heads.old.items ++ heads_of start (line_said said.now sets))) }
     ensures same { OnErr result ((text.new.items ≡ take start text.old.items) × (heads.new.items ≡ heads.old.items)) }
 {
@@ -453,10 +462,11 @@ impl<A: Allocator> LineStore<A> {
             return &[];
         }
         let head = &self.heads[at];
-        if at + 1 >= count {
-            return &self.text[head.start..self.text.len()];
+        let after = at + 1;
+        if after >= count {
+            return piece(&self.text, head.start, self.text.len());
         }
-        let next = &self.heads[at + 1];
-        &self.text[head.start..next.start]
+        let next = &self.heads[after];
+        piece(&self.text, head.start, next.start)
     }
 }

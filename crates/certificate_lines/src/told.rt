@@ -1,6 +1,6 @@
 //! How the text of lines is read into a fact that is lent, or into what is claimed of a routine.
 
-ghost use Rattle.std.specs.Prelude.{ℕ, ◌≡◌, ◌<◌, List, [], ◌∷◌, ◌++◌, length, true, false, is_some, IfSome};
+ghost use Rattle.std.specs.Prelude.{◌≡◌, ◌<◌, List, [], ◌∷◌, ◌++◌, length, true, false, is_some, IfSome};
 ghost use Rattle.wordset.specs.Words.{between};
 ghost use Rattle.domain.specs.Locations.{Ac};
 ghost use Rattle.domain.specs.InCode.{sum_of};

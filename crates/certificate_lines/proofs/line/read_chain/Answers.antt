@@ -1,8 +1,7 @@
-use Rattle.std.proofs.Common.{◌∙◌, refl, ap, arith}
+use Rattle.std.proofs.Common.{◌∙◌, refl}
 use Rattle.std.specs.Prelude.{nat_lt}
 use Rattle.std.proofs.lemmas.Bool.{and_parts, ltb-true}
 use Rattle.wordset.specs.Words.{some_below}
-use Rattle.domain.specs.ChainsInCode.{chain_of}
 use Rattle.certificate_lines.proofs.SumReadLemmas.{chain_fields, chain_is, steps_formed, spaced_steps}
 use Rattle.certificate_lines.proofs.line.read_chain.Goals as goal
 

@@ -1,7 +1,6 @@
 use Rattle.std.proofs.Common.{◌∙◌, ap, refl, sym}
 use Rattle.std.proofs.lemmas.Bool.{and_parts}
 use Rattle.domain.proofs.BriefLemmas.{one_row}
-use Rattle.domain.specs.Terms.{difference_of}
 use Rattle.certificate_lines.specs.LineOf.{is_relation}
 use Rattle.certificate_lines.proofs.SumReadLemmas.{IsDifference, difference_parts, equation_fields, equation_of_fits, equation_fits, one_small, relation_is}
 use Rattle.certificate_lines.proofs.line.read_equation.Goals as goal

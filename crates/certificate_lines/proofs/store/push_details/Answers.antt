@@ -1,9 +1,8 @@
-use Rattle.std.proofs.Common.{map, ap, ◌++◌, ◌∙◌, List}
+use Rattle.std.proofs.Common.{map, ◌++◌, ◌∙◌}
 use Rattle.domain.specs.CellsInCode.{cell_sets_of}
 use Rattle.domain.specs.FactInCode.{fact_in_code}
 use Rattle.certificate_lines.specs.declared.Version.TheVariants.{Three}
 use Rattle.certificate_lines.specs.Lines.{CellIs, SumIs, ChainIs}
-use Rattle.certificate_lines.specs.Spelled.{all_ended}
 use Rattle.certificate_lines.specs.Found.{IsLine}
 use Rattle.certificate_lines.proofs.MakerLemmas.{on_ok}
 use Rattle.certificate_lines.proofs.AddedLemmas.{begins_more, three_parts, three_added}

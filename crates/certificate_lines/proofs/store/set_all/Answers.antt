@@ -1,6 +1,4 @@
-use Rattle.std.proofs.Common.{◌≡◌, ◌∙◌, refl}
-use Rattle.certificate_lines.specs.FieldSpelling.{Registers}
-use Rattle.wordset.specs.Words.{Words}
+use Rattle.std.proofs.Common.{◌≡◌, ◌∙◌}
 use Rattle.certificate_lines.proofs.AddedLemmas.{registers_same}
 use Rattle.certificate_lines.proofs.store.set_all.Goals as goal
 

@@ -1,7 +1,5 @@
-use Rattle.std.proofs.Common.{◌≡◌, refl, sym, ap, ◌∙◌}
+use Rattle.std.proofs.Common.{◌≡◌, ap, ◌∙◌}
 use Rattle.certificate_lines.specs.FieldsLeft.{left}
-use Rattle.certificate_lines.specs.Lines.{Line}
-use Rattle.certificate_lines.specs.Stored.{lines_in}
 use Rattle.certificate_lines.proofs.StoredLemmas.{first_left, nothing_left, shorter_left}
 use Rattle.certificate_lines.proofs.ToldLemmas.{all_left, one_told, room_there, all_told}
 use Rattle.certificate_lines.proofs.told.add_details.Goals as goal

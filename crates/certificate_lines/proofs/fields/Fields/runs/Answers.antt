@@ -1,6 +1,5 @@
-use Rattle.std.proofs.Common.{refl, ap, ◌∙◌}
+use Rattle.std.proofs.Common.{refl, ◌∙◌}
 use Rattle.word12.specs.Words.{octal_text}
-use Rattle.wordset.specs.Words.{union}
 use Rattle.wordset.specs.Lanes.{words}
 use Rattle.certificate_lines.specs.FieldsLeft.{left}
 use Rattle.certificate_lines.proofs.RunLemmas.{none_read, going_on, ended_here, words_read, shorter}

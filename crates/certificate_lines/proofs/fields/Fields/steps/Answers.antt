@@ -1,8 +1,7 @@
-use Rattle.std.proofs.Common.{◌∙◌, ap, refl, sym, arith}
-use Rattle.domain.specs.Chains.{Chain}
+use Rattle.std.proofs.Common.{◌∙◌, refl, arith}
 use Rattle.domain.specs.ChainsInCode.{step_of, chain_of}
 use Rattle.certificate_lines.specs.FieldsLeft.{left}
-use Rattle.certificate_lines.proofs.SumFieldLemmas.{no_steps, step_more, steps_end, steps_full, Grown, chain_begun, chain_grown, chain_done}
+use Rattle.certificate_lines.proofs.SumFieldLemmas.{steps_end, steps_full, chain_begun, chain_grown, chain_done}
 use Rattle.certificate_lines.proofs.fields.Fields.steps.Goals as goal
 
 pub loop-step-init : goal.loop-step-init

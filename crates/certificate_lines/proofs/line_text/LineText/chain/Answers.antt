@@ -1,4 +1,3 @@
-use Rattle.domain.specs.ChainsInCode.{chain_of}
 use Rattle.certificate_lines.proofs.SpelledLemmas.{joined}
 use Rattle.certificate_lines.proofs.line_text.LineText.chain.Goals as goal
 

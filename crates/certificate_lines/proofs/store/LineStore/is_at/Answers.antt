@@ -1,7 +1,6 @@
 use Rattle.std.proofs.lemmas.Bool.{false≢true}
-use Rattle.std.proofs.Common.{◌≡◌, ◌<◌, ◌≤◌, ◌∙◌, ap, length, sym, arith}
-use Rattle.certificate_lines.specs.Lines.{Line}
-use Rattle.certificate_lines.specs.Stored.{lines_in, heads_from}
+use Rattle.std.proofs.Common.{◌≡◌, ◌<◌, ◌≤◌, ◌∙◌, length, sym, arith}
+use Rattle.certificate_lines.specs.Stored.{lines_in}
 use Rattle.certificate_lines.proofs.StoredLemmas.{kept_at, kept_count}
 use Rattle.certificate_lines.proofs.SumFoundLemmas.{at_place, none_at}
 use Rattle.certificate_lines.proofs.store.LineStore.is_at.Goals as goal

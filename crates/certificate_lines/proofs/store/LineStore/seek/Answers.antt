@@ -3,7 +3,6 @@ use Rattle.std.specs.List.Sorted.{IsNonDecreasingBy}
 use Rattle.std.proofs.lemmas.Bool.{ltb-false}
 use Rattle.std.proofs.lemmas.List.Sorted.{IsPartitionPoint-from_clause, IsPartitionedBy-ltb}
 use Rattle.certificate_lines.specs.declared.store.Head.{Head}
-use Rattle.certificate_lines.specs.Stored.{lines_in}
 use Rattle.certificate_lines.proofs.StoredLemmas.{sought, rises_kept}
 use Rattle.certificate_lines.proofs.store.LineStore.seek.Goals as goal
 

@@ -15,7 +15,7 @@ ghost use Rattle.certificate_lines.specs.Spelled.{all_ended};
 ghost use Rattle.certificate_lines.specs.Reading.{fact_said, cells_under, relations_under, chains_under};
 ghost use Rattle.certificate_lines.specs.Adding.{Adds, AddsAll, HasRoomFor, HasRoomUnder};
 ghost use Rattle.certificate_lines.specs.Stored.{lines_in, others, IsText};
-ghost use Rattle.certificate_lines.specs.Found.{IsLine, IsSaid, BeginsRoutine, FitUnder, begins};
+ghost use Rattle.certificate_lines.specs.Found.{IsLine, IsSaid, IsRoutineLine, BeginsRoutine, FitUnder, begins};
 ghost use Rattle.certificate_lines.specs.Said.{set_in, registers_in, line_said};
 
 use crate::fields::Fields;
@@ -206,6 +206,26 @@ fn add_details(fields: &mut Fields<'_>, sets: &mut LineSets, fact: &mut Certifie
     }
 }
 
+/// What a line says of a routine, if it does.
+fn routine_in(said: &Subject, sets: &LineSets) -> Option<RoutineClaim>
+    ensures there { is_some result ≡ is_routine (line_said said.now sets.now) }
+    ensures says { IfSome result (λ r. IsRoutineLine (line_said said.now sets.now) r) }
+{
+    match said {
+        Subject::Routine(_, rank) => {
+            let mut claim = RoutineClaim {
+                rank: *rank,
+                sites: WordSet::empty(),
+                writes: WordSet::empty(),
+            };
+            sets.sites.put(&mut claim.sites);
+            sets.words.put(&mut claim.writes);
+            Some(claim)
+        }
+        _ => None,
+    }
+}
+
 /// What a text says of a routine, if it does.
 pub fn routine_of(text: &[u8]) -> Option<RoutineClaim>
     requires { IsText text.now }
@@ -217,17 +237,6 @@ pub fn routine_of(text: &[u8]) -> Option<RoutineClaim>
     if fields.rest().is_empty() {
         return None;
     }
-    match next_line(&mut fields, &mut sets) {
-        Subject::Routine(_, rank) => {
-            let mut claim = RoutineClaim {
-                rank,
-                sites: WordSet::empty(),
-                writes: WordSet::empty(),
-            };
-            sets.sites.put(&mut claim.sites);
-            sets.words.put(&mut claim.writes);
-            Some(claim)
-        }
-        _ => None,
-    }
+    let said = next_line(&mut fields, &mut sets);
+    routine_in(&said, &sets)
 }

@@ -1,5 +1,5 @@
 -- What the parser of a text has seen, in all versions, and what reading in pieces keeps; for private contracts.
-use Rattle.std.specs.Prelude.{◌≡◌, ℕ, ◌+◌, ◌<◌, ◌≤◌, ◌⊎◌, Bool, true, false, List, [], ◌∷◌, ◌++◌, length, take, Option, Some, None, IfSome, Result, Ok, Err, MatchResult}
+use Rattle.std.specs.Prelude.{◌≡◌, ℕ, ◌+◌, ◌<◌, ◌≤◌, ◌⊎◌, Bool, true, false, List, [], ◌++◌, length, take, Option, Some, None, IfSome, Result, Ok, Err, MatchResult}
 use Rattle.std.specs.Io.KnownBytes.{Consumes, IsAtEnd}
 use Rattle.certificate_lines.specs.declared.CertificateFault.{CertificateFault}
 use Rattle.certificate_lines.specs.declared.CertificateFault.TheVariants.{NoMemory, ReadFault}

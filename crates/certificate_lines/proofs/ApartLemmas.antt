@@ -1,10 +1,9 @@
 -- Runs that stand apart: their text, their set, and how far a set is gone through by them.
-use Rattle.std.proofs.Common.{◌≡◌, ◌⊎◌, ℕ, ◌+◌, ◌*◌, ◌<◌, ◌≤◌, Bool, true, false, not, ◌&&◌, ◌||◌, List, [], ◌∷◌, ◌++◌, refl, ap, ◌∙◌, sym, inl, inr, arith, append_assoc, append-nil}
+use Rattle.std.proofs.Common.{◌≡◌, ◌⊎◌, ℕ, ◌+◌, ◌<◌, ◌≤◌, Bool, true, false, not, ◌&&◌, ◌||◌, List, [], ◌∷◌, ◌++◌, refl, ap, ◌∙◌, sym, inl, inr, arith, append_assoc, append-nil}
 use Rattle.std.specs.Prelude.{if◌then◌else◌}
 use Rattle.std.proofs.lemmas.Bool.{true≢false, cases_lt}
 use Rattle.std.proofs.Math.Bool.{or-false, or_assoc}
 use Rattle.wordset.specs.Words.{Words, nothing, between, union, difference, all_words, IsFirstFrom, HasNoneFrom}
-use Rattle.wordset.specs.Lanes.{words}
 use Rattle.certificate_lines.specs.declared.runs.Run.{Run}
 use Rattle.certificate_lines.specs.FieldsLeft.{run_text}
 use Rattle.certificate_lines.specs.LineText.{IsLastOf}
@@ -75,9 +74,6 @@ before_all n (r ∷ rs) v h small =
     let a : n ≤ r.first = h.0 in
     let b : r.first ≤ r.last = h.1 in
     first_or r rs v ∙ or_with _ _ false false (below_between r.first r.last v (omega arith)) (before_all (r.last + 2) rs v h.3 (omega arith))
-
-pub run_is : (a b : Run) → a.first ≡ b.first → a.last ≡ b.last → a ≡ b
-run_is a b e f = ap (λ (n : ℕ). record a { first = n }) e ∙ ap (λ (n : ℕ). record b { last = n }) f
 
 -- The words of a set below n are those of these runs, after which the next one may begin at another number.
 pub record Closed (s : Words) (rs : List Run) (n next : ℕ) : Type 0 where

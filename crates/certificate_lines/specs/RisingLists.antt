@@ -1,5 +1,5 @@
 -- Lists that rise, members of lists, tracked cells and sets that end, as lines of a certificate have them.
-use Rattle.std.specs.Prelude.{◌≡◌, ℕ, ◌+◌, ◌<◌, ◌≤◌, false, List, [], ◌∷◌}
+use Rattle.std.specs.Prelude.{◌≡◌, ℕ, ◌+◌, ◌≤◌, false, List, [], ◌∷◌}
 use Rattle.wordset.specs.Words.{Words}
 use Rattle.wordset.specs.Links.{links_of}
 use Rattle.domain.specs.Locations.{Location, Ac, Cell}

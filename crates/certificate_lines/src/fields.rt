@@ -1,7 +1,7 @@
 //! The fields of a line. They are read loosely: each is read right where it stands in its own spelling, and what a line of
 //! other bytes says does not matter, since it is spelled and compared with these bytes.
 
-ghost use Rattle.std.specs.Prelude.{ℕ, ◌≡◌, ◌+◌, ◌<◌, ◌≤◌, ◌%◌, ◌↔◌, List, [], ◌∷◌, ◌++◌, length, flat_map, codes, true, false};
+ghost use Rattle.std.specs.Prelude.{ℕ, ◌≡◌, ◌+◌, ◌<◌, ◌≤◌, ◌%◌, List, [], ◌∷◌, ◌++◌, length, flat_map, codes, true, false};
 ghost use Rattle.word12.specs.Words.{octal_text};
 ghost use Rattle.wordset.specs.Words.{Words, union, between, has_some};
 ghost use Rattle.wordset.specs.Lanes.{words};

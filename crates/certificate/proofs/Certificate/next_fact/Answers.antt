@@ -1,4 +1,4 @@
-use Rattle.std.proofs.Common.{◌≡◌, ◌+◌, ◌*◌, true, refl, sym, arith}
+use Rattle.std.proofs.Common.{◌≡◌, ◌+◌, true, refl, sym, arith}
 use Rattle.certificate_lines.proofs.SumReaderLemmas.{none_left, fact_next}
 use Rattle.certificate_lines.proofs.SumSkipLemmas.{fact_skipped, has_shape_there, told_there, details_told, fits_told, said_told, details_there}
 use Rattle.certificate.proofs.Certificate.next_fact.Goals as goal

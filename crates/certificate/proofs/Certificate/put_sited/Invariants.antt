@@ -1,4 +1,4 @@
-use Rattle.std.proofs.Common.{◌≡◌, length}
+use Rattle.std.proofs.Common.{length}
 use Rattle.declaration.specs.DeclarationInCode.{meaning as declared}
 use Rattle.certificate_lines.specs.FieldsLeft.{left}
 use Rattle.certificate_lines.specs.CertificateInCode.{claims}

@@ -1,4 +1,4 @@
-use Rattle.std.proofs.Common.{map, ◌++◌, ◌∙◌}
+use Rattle.std.proofs.Common.{map, ◌∙◌}
 use Rattle.domain.specs.CellsInCode.{cell_sets_of}
 use Rattle.domain.specs.FactInCode.{fact_in_code}
 use Rattle.certificate_lines.specs.declared.Version.TheVariants.{Three}

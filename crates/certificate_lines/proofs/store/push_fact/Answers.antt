@@ -1,4 +1,3 @@
-use Rattle.std.proofs.Common.{◌≡◌, ◌++◌}
 use Rattle.certificate_lines.proofs.MakerLemmas.{on_ok}
 use Rattle.certificate_lines.proofs.AddedLemmas.{both_added, begins_more}
 use Rattle.certificate_lines.proofs.store.push_fact.Goals as goal

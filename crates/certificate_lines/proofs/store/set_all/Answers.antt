@@ -1,4 +1,4 @@
-use Rattle.std.proofs.Common.{◌≡◌, ◌∙◌}
+use Rattle.std.proofs.Common.{◌∙◌}
 use Rattle.certificate_lines.proofs.AddedLemmas.{registers_same}
 use Rattle.certificate_lines.proofs.store.set_all.Goals as goal
 

@@ -1,4 +1,4 @@
-use Rattle.std.proofs.Common.{◌≡◌, ap, ◌∙◌}
+use Rattle.std.proofs.Common.{ap, ◌∙◌}
 use Rattle.certificate_lines.specs.FieldsLeft.{left}
 use Rattle.certificate_lines.proofs.StoredLemmas.{first_left, nothing_left, shorter_left}
 use Rattle.certificate_lines.proofs.ToldLemmas.{all_left, one_told, room_there, all_told}

@@ -1,4 +1,4 @@
-use Rattle.std.proofs.Common.{refl, ◌∙◌}
+use Rattle.std.proofs.Common.{refl}
 use Rattle.domain.specs.Offsets.{offsets_in}
 use Rattle.certificate_lines.specs.FieldsLeft.{left}
 use Rattle.certificate_lines.specs.FieldSpelling.{rank_text}

@@ -1,4 +1,4 @@
-use Rattle.std.proofs.Common.{refl, ◌∙◌}
+use Rattle.std.proofs.Common.{refl}
 use Rattle.certificate_lines.specs.FieldsLeft.{left}
 use Rattle.certificate_lines.specs.Said.{set_in}
 use Rattle.certificate_lines.proofs.RunLemmas.{dash_read, one_read, many_read}

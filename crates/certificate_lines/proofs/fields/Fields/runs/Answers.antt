@@ -1,4 +1,4 @@
-use Rattle.std.proofs.Common.{refl, ◌∙◌}
+use Rattle.std.proofs.Common.{refl}
 use Rattle.word12.specs.Words.{octal_text}
 use Rattle.wordset.specs.Lanes.{words}
 use Rattle.certificate_lines.specs.FieldsLeft.{left}

@@ -1,4 +1,4 @@
-use Rattle.std.proofs.Common.{◌∙◌, refl, arith}
+use Rattle.std.proofs.Common.{refl, arith}
 use Rattle.domain.specs.ChainsInCode.{step_of, chain_of}
 use Rattle.certificate_lines.specs.FieldsLeft.{left}
 use Rattle.certificate_lines.proofs.SumFieldLemmas.{steps_end, steps_full, chain_begun, chain_grown, chain_done}

@@ -1,4 +1,4 @@
-use Rattle.std.proofs.Common.{◌∙◌, refl}
+use Rattle.std.proofs.Common.{refl}
 use Rattle.domain.specs.LocationsInCode.{location_of}
 use Rattle.domain.specs.InCode.{summand_of}
 use Rattle.certificate_lines.specs.FieldsLeft.{left}

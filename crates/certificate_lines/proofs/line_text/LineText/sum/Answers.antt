@@ -1,4 +1,3 @@
-use Rattle.std.proofs.Common.{◌∙◌}
 use Rattle.domain.specs.InCode.{sum_of}
 use Rattle.certificate_lines.proofs.SumSpelledLemmas.{sum_written}
 use Rattle.certificate_lines.proofs.line_text.LineText.sum.Goals as goal

@@ -1,8 +1,12 @@
-use Rattle.std.proofs.Common.{◌∙◌, ap}
+use Rattle.std.proofs.Common.{◌∙◌, [], ap}
 use Rattle.wordset.specs.Words.{Words, difference}
 use Rattle.wordset.specs.Lanes.{words}
-use Rattle.certificate_lines.proofs.SpelledLemmas.{set_more, set_written}
+use Rattle.certificate_lines.proofs.ApartLemmas.{none_closed}
+use Rattle.certificate_lines.proofs.SpelledLemmas.{runs_begun, set_more, set_written}
 use Rattle.certificate_lines.proofs.line_text.LineText.words.Goals as goal
+
+pub loop-low-init : goal.loop-low-init
+loop-low-init c = record { runs = []; closed = none_closed (words c.args.set.now); written = runs_begun c.args.self.now.bytes.items }
 
 pub loop-low-preserved : goal.loop-low-preserved
 loop-low-preserved c =

@@ -1,5 +1,5 @@
 use Rattle.std.proofs.lemmas.Bool.{false≢true}
-use Rattle.std.proofs.Common.{◌≡◌, ◌<◌, ◌≤◌, ◌∙◌, length, sym, arith}
+use Rattle.std.proofs.Common.{◌<◌, length, sym, arith}
 use Rattle.certificate_lines.specs.Stored.{lines_in}
 use Rattle.certificate_lines.proofs.StoredLemmas.{kept_at, kept_count}
 use Rattle.certificate_lines.proofs.SumFoundLemmas.{at_place, none_at}

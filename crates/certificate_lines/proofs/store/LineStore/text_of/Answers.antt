@@ -1,4 +1,4 @@
-use Rattle.std.proofs.Common.{◌≡◌, ◌+◌, ◌<◌, ◌≤◌, ◌∙◌, [], length, arith}
+use Rattle.std.proofs.Common.{◌+◌, ◌<◌, ◌≤◌, ◌∙◌, [], length, arith}
 use Rattle.certificate_lines.proofs.StoredLemmas.{cut_text, no_text, last_piece, next_piece}
 use Rattle.certificate_lines.proofs.store.LineStore.text_of.Goals as goal
 

@@ -58,7 +58,7 @@ digits_same (suc n) s t h =
     let f : s n ≡ t n = h n (omega arith) in rw (e, f) refl
 
 -- No lesser digit than n is next, and no dash.
-pub other_digit : (k n x : ℕ) (s : Words) (tail r : List ℕ) → EndsField tail → 32 < x → x < 48 + n → digits_from k n s ++ tail ≡ x ∷ r → ⊥
+pub other_digit : (k n x : ℕ) (s : Words) (tail r : List ℕ) → EndsField tail → 42 < x → x < 48 + n → digits_from k n s ++ tail ≡ x ∷ r → ⊥
 unfolding digits_from
 other_digit zero n x s [] r ends low high e = absurd (cc)
 other_digit zero n x s (c ∷ cs) r ends low high e = let z : c ≡ x = cc in omega arith

@@ -1,6 +1,6 @@
 -- Lines of all versions read field by field.
 use Rattle.std.proofs.Common.{◌≡◌, ℕ, ◌<◌, ◌&&◌, true, false, List, [], ◌∷◌, ◌++◌, length, inl, inr, refl, ap, ◌∙◌, sym, arith, append_assoc}
-use Rattle.std.specs.Prelude.{codes, flat_map, nat_le}
+use Rattle.std.specs.Prelude.{codes, flat_map, nat_le, nat_lt}
 use Rattle.std.specs.List.{list_all}
 use Rattle.std.proofs.lemmas.Bool.{true≢false, and_parts, cases_Bool, cases_lt, leb-true, le-ltb, ne_eqb}
 use Rattle.word12.specs.Words.{octal_text}
@@ -136,8 +136,8 @@ pub record IsDifference (x y : Location) : Type 0 where
 pub difference_parts : (x y : Location) → is_relation (difference_of x y) ≡ true → IsDifference x y
 difference_parts x y h =
     let w = (shape_of (difference_of x y) h).0 in
-    let p = and_parts _ _ w in let q = and_parts _ _ p.1 in
-    record { first = name_small x (and_parts _ _ p.0).1; second = name_small y (and_parts _ _ q.0).1 }
+    let p = and_parts _ _ w in let q = and_parts _ true p.1 in
+    record { first = name_small x (and_parts (nat_lt 1 4096) _ p.0).1; second = name_small y (and_parts (nat_lt 4095 4096) _ q.0).1 }
 
 pub equation_fields : (r : Relation) (x y : Location) (k : ℕ) (rest : List ℕ) → r.sum ≡ difference_of x y → r.set ≡ one k → k < 4096 →
     equation_line r ++ rest ≡ codes "equal " ++ (name_text x ++ (codes " " ++ (name_text y ++ (codes " " ++ (octal_text k ++ rest)))))

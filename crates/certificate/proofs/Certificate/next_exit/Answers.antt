@@ -29,13 +29,13 @@ returns-clause-next g c = λ done.
     let same : 8192 + 64 * c.index.result + c.args.offset ≡ 8192 + (64 * c.args.entry + c.args.offset) = omega (arith, c.index.ensures.same) in
     let at : begins_at (8192 + (64 * c.args.entry + c.args.offset)) (from_head c.args.line.now c.self.inside.kept) ≡ true =
     subst (λ (p : ℕ). begins_at p (from_head c.args.line.now c.self.inside.kept) ≡ true) same (sym c.if-not-is_at.ensures.at) in
-    let there : c.put_fact-_is_there.result ≡ true =
+    let there : c.put_fact-is_there.result ≡ true =
     told_there c.self.inside.version c.self.inside.kept c.args.line.now _ _ _ c.self.invariant (omega arith) (omega (arith, c.index.ensures.small, c.requires.offset))
-    (sym c.if-not-is_at.ensures.at) c.text_of.ensures.lines c.put_fact-_is_there.ensures.there in
+    (sym c.if-not-is_at.ensures.at) c.text_of.ensures.lines c.put_fact-is_there.ensures.there in
     rw (← c.self.view_is) ((exit_next c.self.inside.version c.self.inside.kept c.args.line.now (c.args.line.now + 1) c.args.entry c.args.offset _ c.self.invariant
     (omega (arith, c.index.ensures.same, c.index.ensures.small)) c.requires.offset at
     (details_there c.self.inside.version c.self.inside.kept c.args.line.now _ c.self.invariant (omega arith) (omega (arith, c.index.ensures.same, c.index.ensures.small, c.requires.offset)) at)
-    (said_told _ _ _ c.text_of.ensures.lines (c.put_fact-_is_there.ensures.says there)) refl).next)
+    (said_told _ _ _ c.text_of.ensures.lines (c.put_fact-is_there.ensures.says there)) refl).next)
 
 pub returns-clause-stands : goal.returns-clause-stands
 returns-clause-stands g c =
@@ -48,8 +48,8 @@ returns-clause-stands g c =
 
 pub returns-clause-shape : goal.returns-clause-shape
 returns-clause-shape g c = λ done.
-    let there : c.put_fact-_is_there.result ≡ true =
+    let there : c.put_fact-is_there.result ≡ true =
     told_there c.self.inside.version c.self.inside.kept c.args.line.now _ _ _ c.self.invariant (omega arith) (omega (arith, c.index.ensures.small, c.requires.offset))
-    (sym c.if-not-is_at.ensures.at) c.text_of.ensures.lines c.put_fact-_is_there.ensures.there in
+    (sym c.if-not-is_at.ensures.at) c.text_of.ensures.lines c.put_fact-is_there.ensures.there in
     has_shape_there c.self.inside.version c.self.inside.kept c.args.line.now _ _ c.self.invariant (sym c.if-not-is_at.ensures.at)
-    (said_told _ _ _ c.text_of.ensures.lines (c.put_fact-_is_there.ensures.says there))
+    (said_told _ _ _ c.text_of.ensures.lines (c.put_fact-is_there.ensures.says there))

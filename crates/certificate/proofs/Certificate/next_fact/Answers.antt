@@ -24,13 +24,13 @@ overflow_add-line g c = let z = c.if-not-is_at.ensures.small refl in omega (arit
 pub returns-clause-next : goal.returns-clause-next
 returns-clause-next g c = λ done.
     let here = sym (rw c.index.ensures.same at c.if-not-is_at.ensures.at) in
-    let there : c.put_fact-_is_there.result ≡ true =
+    let there : c.put_fact-is_there.result ≡ true =
     told_there c.self.inside.version c.self.inside.kept c.args.line.now (4096 + c.index.result) _ _ c.self.invariant (omega arith) (omega (arith, c.index.ensures.small))
-    (sym c.if-not-is_at.ensures.at) c.text_of.ensures.lines c.put_fact-_is_there.ensures.there in
+    (sym c.if-not-is_at.ensures.at) c.text_of.ensures.lines c.put_fact-is_there.ensures.there in
     rw (← c.self.view_is) ((fact_next c.self.inside.version c.self.inside.kept c.args.line.now (c.args.line.now + 1) c.args.at _ c.self.invariant
     (omega (arith, c.index.ensures.same, c.index.ensures.small)) here
     (details_there c.self.inside.version c.self.inside.kept c.args.line.now (4096 + c.args.at) c.self.invariant (omega arith) (omega (arith, c.index.ensures.same, c.index.ensures.small)) here)
-    (said_told _ _ _ c.text_of.ensures.lines (c.put_fact-_is_there.ensures.says there)) refl).next)
+    (said_told _ _ _ c.text_of.ensures.lines (c.put_fact-is_there.ensures.says there)) refl).next)
 
 pub returns-clause-stands : goal.returns-clause-stands
 returns-clause-stands g c =
@@ -40,8 +40,8 @@ returns-clause-stands g c =
 
 pub returns-clause-shape : goal.returns-clause-shape
 returns-clause-shape g c = λ done.
-    let there : c.put_fact-_is_there.result ≡ true =
+    let there : c.put_fact-is_there.result ≡ true =
     told_there c.self.inside.version c.self.inside.kept c.args.line.now (4096 + c.index.result) _ _ c.self.invariant (omega arith) (omega (arith, c.index.ensures.small))
-    (sym c.if-not-is_at.ensures.at) c.text_of.ensures.lines c.put_fact-_is_there.ensures.there in
+    (sym c.if-not-is_at.ensures.at) c.text_of.ensures.lines c.put_fact-is_there.ensures.there in
     has_shape_there c.self.inside.version c.self.inside.kept c.args.line.now (4096 + c.index.result) _ c.self.invariant (sym c.if-not-is_at.ensures.at)
-    (said_told _ _ _ c.text_of.ensures.lines (c.put_fact-_is_there.ensures.says there))
+    (said_told _ _ _ c.text_of.ensures.lines (c.put_fact-is_there.ensures.says there))

@@ -16,16 +16,16 @@ pub loop-found-preserved : goal.loop-found-preserved
 loop-found-preserved c =
     going_on rank_text 64 (offsets_in c.loop-found.found) (offsets_in c.insert_offsets.new.found) (left c.loop-found.self) (left c.offset_run-first.new.self)
     (record { first = c.offset_run-first.result.0; last = c.offset_run-first.result.1 }) c.offset_run-first.ensures.only
-    (put_offsets _ _ _ _ c.insert_offsets.ensures) (left c.takes.new.self) (left c.takes-2.new.self) c.loop-found.invariant (c.if-not-takes.ensures.taken refl)
+    (put_offsets _ _ _ _ c.insert_offsets.ensures) (left c.takes.new.self) (left c.takes-in-loop-found.new.self) c.loop-found.invariant (c.if-not-takes.ensures.taken refl)
 
 pub loop-found-smaller : goal.loop-found-smaller
 loop-found-smaller c =
-    shorter (left c.loop-found.self) (left c.offset_run-first.new.self) (left c.takes-2.new.self) c.offset_run-first.ensures.shorter (c.if-not-takes.ensures.taken refl)
+    shorter (left c.loop-found.self) (left c.offset_run-first.new.self) (left c.takes-in-loop-found.new.self) c.offset_run-first.ensures.shorter (c.if-not-takes.ensures.taken refl)
 
 pub returns-then-not-takes : goal.returns-then-not-takes
 returns-then-not-takes c = λ s tail end ends e.
-    offsets_after (left c.args.self.now) (left c.takes.new.self) (left c.takes-2.new.self) (offsets_in c.insert_offsets.new.found) (c.if-takes.ensures.kept refl) c.if-takes.ensures.only (record {
+    offsets_after (left c.args.self.now) (left c.takes.new.self) (left c.takes-in-loop-found.new.self) (offsets_in c.insert_offsets.new.found) (c.if-takes.ensures.kept refl) c.if-takes.ensures.only (record {
       all = ended_here rank_text 64 (offsets_in c.loop-found.found) (offsets_in c.insert_offsets.new.found) (left c.loop-found.self) (left c.offset_run-first.new.self)
           (record { first = c.offset_run-first.result.0; last = c.offset_run-first.result.1 }) c.offset_run-first.ensures.only
-          (put_offsets _ _ _ _ c.insert_offsets.ensures) (left c.takes.new.self) (left c.takes-2.new.self) c.loop-found.invariant (c.if-not-takes.ensures.kept refl) c.if-not-takes.ensures.only;
+          (put_offsets _ _ _ _ c.insert_offsets.ensures) (left c.takes.new.self) (left c.takes-in-loop-found.new.self) c.loop-found.invariant (c.if-not-takes.ensures.kept refl) c.if-not-takes.ensures.only;
     }) s tail end ends e

@@ -110,6 +110,9 @@ fn spell(version: Version, said: &Subject, room: &mut LineRoom)
     ensures sets { room.new.sets ≡ room.old.sets }
     ensures text { Spells spelled.Three (line_said said.now room.old.sets) room.new.text.bytes.items }
 {
+    if said.is_plain() {
+        return;
+    }
     match version {
         Version::One => room.spell(said),
         Version::Two => room.spell(said),

@@ -2,9 +2,11 @@
 
 ghost use Rattle.std.specs.Prelude.{◌≡◌, ◌<◌, ◌≤◌, true};
 ghost use Rattle.domain.specs.InCode.{sum_of};
+ghost use Rattle.certificate_lines.specs.declared.Version.{Version as Spelled};
 ghost use Rattle.certificate_lines.specs.declared.said.LineSets.{LineSets};
 ghost use Rattle.certificate_lines.specs.Lines.{is_detail, is_end, has_details};
 ghost use Rattle.certificate_lines.specs.Order.{detail_is_before, place_of_head, sum_is_before};
+ghost use Rattle.certificate_lines.specs.Spelling.{line_text};
 ghost use Rattle.certificate_lines.specs.Said.{line_said, IsNumbered};
 
 use crate::runs::LineSet;
@@ -98,6 +100,14 @@ impl Subject {
         ensures { (sets : LineSets) → result ≡ is_end (line_said self.now sets) }
     {
         matches!(self, Subject::End)
+    }
+
+    /// Whether its line has one text in all versions.
+    pub fn is_plain(&self) -> bool
+        ensures { (sets : LineSets) (v w : Spelled) → result ≡ true →
+            line_text v (line_said self.now sets) ≡ line_text w (line_said self.now sets) }
+    {
+        matches!(self, Subject::Routine(_, _) | Subject::Cell(_) | Subject::End)
     }
 
     /// Whether it is a fact or an exit.

@@ -1,7 +1,12 @@
-use Rattle.std.proofs.Common.{refl}
+use Rattle.std.proofs.Common.{◌∙◌, refl}
 use Rattle.certificate_lines.specs.declared.Version.TheVariants.{One, Two, Three}
 use Rattle.certificate.proofs.SumSitedLemmas.{three, spelled_three}
 use Rattle.certificate.proofs.parser.spell.Goals as goal
+
+pub returns-then-is_plain : goal.returns-then-is_plain
+returns-then-is_plain c =
+    let t = three c.args.version _ (c.requires.form, c.requires.fits) in
+    record { sets = refl; text = record { form = t.0; fits = t.1; text = c.requires.text ∙ c.if-is_plain.ensures c.args.room.now.sets c.args.version Three refl } }
 
 pub spell-requires : goal.spell-requires
 spell-requires c = let h = rw c.in-One.is at c.requires in three One _ (h.form, h.fits)

@@ -31,7 +31,7 @@ use Rattle.certificate_lines.proofs.StoredLemmas.{both_ended, stored, read_back}
 use Rattle.certificate_lines.proofs.SumReaderLemmas.{has_place}
 
 -- One text after another.
-pub both_added : (old now new xs ys : List ℕ) → now ≡ old ++ xs → new ≡ now ++ ys → new ≡ old ++ xs ++ ys
+pub both_added : (old now new xs ys : List ℕ) → now ≡ old ++ xs → new ≡ now ++ ys → new ≡ old ++ (xs ++ ys)
 both_added old now new xs ys a b = b ∙ (ap (λ (x : List ℕ). x ++ ys) a ∙ append_assoc old xs ys)
 
 pub begins_more : (old now new xs : List ℕ) → now ≡ old ++ xs → Begins now new → Begins old new
@@ -139,15 +139,10 @@ one_line old new line l e is = is ∙ ap (λ (x : List ℕ). old ++ x) (ap ended
 -- The line of a fact has a head, and its details have none.
 all_details : (f : SumFact 64 32) → Each (λ l. is_detail l ≡ true) (details_of f)
 all_details f =
-    each_append Detail (map CellIs cells ++ map SumIs (fact_in_code f).relations) (map ChainIs (fact_in_code f).chains)
-    (each_append Detail (map CellIs cells) (map SumIs (fact_in_code f).relations) (of_cells cells) (of_sums (fact_in_code f).relations)) (of_chains (fact_in_code f).chains)
+    each_append (λ (l : Line). is_detail l ≡ true) (map CellIs (cell_sets_of f.cells) ++ map SumIs (fact_in_code f).relations) (map ChainIs (fact_in_code f).chains)
+    (each_append (λ (l : Line). is_detail l ≡ true) (map CellIs (cell_sets_of f.cells)) (map SumIs (fact_in_code f).relations) (of_cells (cell_sets_of f.cells))
+    (of_sums (fact_in_code f).relations)) (of_chains (fact_in_code f).chains)
   where
-    cells : List TrackedCell
-    cells = cell_sets_of f.cells
-
-    abbrev Detail : Line → Type 0
-    Detail l = is_detail l ≡ true
-
     of_cells : (xs : List TrackedCell) → Each (λ l. is_detail l ≡ true) (map CellIs xs)
     of_cells [] = tt
     of_cells (x ∷ xs) = (refl, of_cells xs)

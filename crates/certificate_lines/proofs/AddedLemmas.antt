@@ -111,7 +111,7 @@ lines_added bytes new hs nhs more s form is at =
 stays : (bytes mid new : List ℕ) (hs nhs : List Head) (start : ℕ) → IsStored bytes hs → start ≡ length bytes → Begins bytes mid → new ≡ take start mid → nhs ≡ hs →
     IsStored new nhs × (lines_in new ≡ lines_in bytes)
 stays bytes mid new hs nhs start s count b is at =
-    let e : new ≡ bytes = is ∙ (ap (λ (x : List ℕ). take start x) b.1 ∙ take_at bytes b.0 start count) in
+    let e : new ≡ bytes = is ∙ (ap (λ (x : List ℕ). take start x) b.1 ∙ take_at bytes b.0 start (sym count)) in
     let kept : IsStored new nhs = rw (e, at) s in
     (kept, ap lines_in e)
 

@@ -13,10 +13,11 @@ use command_parts::status::{DeviceFault, Fault, Status};
 use diagnostics::verdicts::certificates::{certified_from, write_certificate};
 use diagnostics::verdicts::messages::check_message;
 use instruct::Profile;
+use machine_commands::long_trace::MnemonicStatements;
 use machine_commands::running::{dump, run, run_events};
 use machine_commands::session::{Outputs, run_session};
 use machine_commands::stopped_watch::{WatchOptions, watch_session_message_to_stop};
-use machine_commands::stopping::no_stops;
+use machine_commands::stopping::{TraceOptions, no_stops};
 use machine_commands::watching::watch;
 use search_commands::checking::check;
 use search_commands::declaring::proposed;
@@ -55,6 +56,12 @@ enum Command {
     Stuck,
     Migrate,
 }
+
+/// No last instructions are requested.
+const SHORT_LINES: TraceOptions<'static, MnemonicStatements> = TraceOptions {
+    last: None,
+    statements: None,
+};
 
 /// The parts of the source.
 static PARTS: [&[u8]; 2] = [b"*200\n", b"HLT\n$\n"];
@@ -193,7 +200,7 @@ fn watched_with_operator<A: Allocator + Copy>(
     let (stops, show) = (no_stops(), WordSet::empty());
     let telling = WatchOptions {
         stops: &stops,
-        last: None,
+        trace: SHORT_LINES,
         explained: false,
         show: &show,
     };
@@ -306,7 +313,7 @@ fn operated<A: Allocator + Copy>(alloc: A, heap: Global, plan: &Plan) -> Observe
         &mut plan.source(2, b"A"),
         session(),
         &no_stops(),
-        None,
+        SHORT_LINES,
         SummaryForm::WHOLE,
         &mut outputs,
     );

@@ -1,133 +1,157 @@
--- What a run writes, from its parts.
-use Rattle.std.proofs.Common.{ℕ, ◌≡◌, Bool, true, false, List, ◌++◌, refl, inl, inr}
-use Rattle.std.specs.Prelude.{◌⊎◌, Option, None, Result, Err, IfErr, OnErr}
+-- The run of a course: what comes of a list of events is the list up to where its run ends or is stopped.
+use Rattle.std.proofs.Common.{ℕ, zero, suc, ◌≡◌, ◌+◌, Bool, true, false, List, [], ◌∷◌, ◌++◌, length, take, drop, Option, Some, None, Result, Ok, Err, IfOk, refl, sym, ◌∙◌, ap, subst, inl, inr, true≢false}
 use Rattle.std.specs.Io.KnownBytes.{Appends}
-use Rattle.std.proofs.KnownBytes.{Appends-trans}
-use Rattle.streams.specs.Bytes.{AppendsFront}
 use Rattle.instruct.specs.declared.Profile.{Profile}
 use Rattle.peripherals.specs.declared.Event.{Event}
+use Rattle.peripherals.specs.declared.Event.TheVariants.{Step}
 use Rattle.peripherals.specs.Devices.{WorldState}
-use Rattle.machine_commands.specs.declared.follow.RunOutcome.{RunOutcome}
-use Rattle.wordset.specs.Lanes.{words}
+use Rattle.peripherals.proofs.OneLemmas.{one_world}
 use Rattle.command_parts.specs.declared.options.RunOptions.{RunOptions}
+use Rattle.command_parts.specs.declared.options.Stops.{Stops}
 use Rattle.command_parts.specs.declared.status.Fault.{Fault}
-use Rattle.command_parts.specs.declared.status.Fault.TheVariants.{NoMemory}
 use Rattle.command_parts.specs.declared.status.Status.{Status}
-use Rattle.machine_commands.specs.Course.{Ran, RanToOutput}
-use Rattle.command_parts.specs.Faults.{IsEventsInputFault, IsTapeInputFault, fails_to_write}
-use Rattle.machine_commands.specs.Follows.{Follows, IsTraceOfSome, IsTraceUpToOutput, rounds}
-use Rattle.command_parts.specs.Inputs.{HasCome, HasEvents, HasImage, Input}
-use Rattle.machine_commands.specs.Running.{IsPartOf, IsRunText, IsRunTold, IsTraceOfEvents, IsTraceOfRounds, IsTraceToOutput, fresh, shown_of, status_of}
-use Rattle.machine_commands.specs.Last.{told}
-use Rattle.machine_commands.specs.Summary.{closing}
-use Rattle.machine_commands.specs.Trace.{traced}
 use Rattle.command_parts.specs.Writes.{FrontOf, Writes}
-use Rattle.machine_commands.proofs.FollowLemmas.{front_after, output_traced, ran_whole}
+use Rattle.machine_commands.specs.declared.follow.End.{End}
+use Rattle.machine_commands.specs.Follows.{Conduct, Follows, FollowsBy, Ended, Stuck, Stopped, Usual, Went, goes_on, seen_by}
+use Rattle.machine_commands.specs.Last.{Shown, no_last}
+use Rattle.machine_commands.specs.Running.{IsRunOf, fresh}
+use Rattle.machine_commands.specs.Schedule.{ComesBy, Over, Due, Final, Then, Extent, ToStep, Whole, first_of, listing}
+use Rattle.machine_commands.specs.Session.{WritesAll, taken}
+use Rattle.machine_commands.specs.StopLaws.{AreNone}
+use Rattle.machine_commands.specs.StoppedSession.{IsHeldToStop}
+use Rattle.machine_commands.specs.Stopping.{IsCut, IsRunWithStops}
+use Rattle.machine_commands.specs.Stops.{NeverStops, StopsAfter, Here, Later, Ends, Continues, stops_before, visits_with}
+use Rattle.machine_commands.specs.Summary.{whole_form}
+use Rattle.machine_commands.proofs.StopLawLemmas.{none_after, not_halted, not_stuck}
 
-run_told : (options : RunOptions) (shown : Option ℕ) (stopped ends : Bool) (events : List Event) (image : List (Option ℕ)) (p : Profile) (w x : WorldState) (ran outcome : RunOutcome) (lines : List ℕ) (status : Status) →
-    p ≡ options.profile → w ≡ fresh image options.start → Follows p ends events w lines ran.steps ran.end x → outcome.steps ≡ ran.steps → outcome.end ≡ told stopped ran.end x → status ≡ status_of outcome.end →
-    IsRunTold options shown stopped ends events image (shown_of options.trace shown lines ++ closing (words options.show) outcome.end x outcome.steps) status
-run_told options shown stopped ends events image p w x ran outcome lines status profile begins follows steps ends_so is = record {
-  lines = lines;
-  steps = ran.steps;
-  end = ran.end;
-  final = x;
-  follows = rw (profile, begins) at follows;
-  text_is = rw (steps, ends_so) refl;
-  status_is = rw ends_so at is;
+-- What comes of a list in a run.
+abbrev pub listed : Bool → List Event → Conduct → WorldState → Extent → List Event → Type 0
+listed h es c w extent events = ComesBy listing h c extent es w events
+
+none_first : (e : Event) → Some e ≡ None → ⊥
+none_first e is = cc
+
+first_is : (e f : Event) → Some e ≡ Some f → e ≡ f
+first_is e f is = cc
+
+-- all that comes leads to where all events do
+whole_list : (p : Profile) (h : Bool) (es front : List Event) (w x : WorldState) (lines : List ℕ) (n : ℕ) (end : End) → listed h es (Usual p) w Whole front → Follows p h front w lines n end x → Follows p h es w lines n end x
+whole_list p h [] front w x lines n end (Over _ _ none) f = f
+whole_list p h (e ∷ es) front w x lines n end (Over _ _ none) f = absurd (none_first e none)
+whole_list p h es front w x lines n end (Due _ _ due step) f = absurd step
+whole_list p h [] front w x lines n end (Final _ _ e due over) f = cc
+whole_list p h (d ∷ es) front w x lines n end (Final _ _ e due over) (Stuck _ _ _ _ word s a) = rw (first_is d e due) (Stuck e es w x word s a)
+whole_list p h (d ∷ es) front w x lines n end (Final _ _ e due over) (Stopped _ _ _ _ ends s a) = rw (first_is d e due) (Stopped e es w x ends s a)
+whole_list p h (d ∷ es) front w x lines n end (Final _ _ e due over) (Went _ _ _ m _ what ls k _ s on a f) = absurd (true≢false (sym on ∙ (ap (goes_on h) (sym s) ∙ over)))
+whole_list p h [] front w x lines n end (Then _ _ m e fs due goes happens rest) f = cc
+whole_list p h (d ∷ es) front w x lines n end (Then _ _ m e fs due goes happens rest) (Stuck _ _ _ _ word s a) = absurd (not_stuck h (seen_by (Usual p) w e) word s goes)
+whole_list p h (d ∷ es) front w x lines n end (Then _ _ m e fs due goes happens rest) (Stopped _ _ _ _ ends s a) = absurd (not_halted h (seen_by (Usual p) w e) ends s goes)
+whole_list p h (d ∷ es) front w x lines n end (Then _ _ m e fs due goes happens rest) (Went _ _ _ v _ what ls k _ s on a f) =
+    let same : v ≡ m = one_world p w e v m a happens in
+    let later : Follows p h fs m ls k end x = subst (λ (y : WorldState). Follows p h fs y ls k end x) same f in
+    let after : Follows p h es v ls k end x = subst (λ (y : WorldState). Follows p h es y ls k end x) (sym same) (whole_list p h es fs m x ls k end rest later) in
+    rw (first_is d e due) (Went e es w v x what ls k end s on a after)
+
+-- what stops none of what comes stops none of all events
+whole_never : (stops : Stops) (p : Profile) (h : Bool) (visits : ℕ) (es front : List Event) (w : WorldState) → listed h es (Usual p) w Whole front → NeverStops stops (Usual p) h visits front w → NeverStops stops (Usual p) h visits es w
+whole_never stops p h visits [] front w (Over _ _ none) f = f
+whole_never stops p h visits (e ∷ es) front w (Over _ _ none) f = absurd (none_first e none)
+whole_never stops p h visits es front w (Due _ _ due step) f = absurd step
+whole_never stops p h visits [] front w (Final _ _ e due over) f = cc
+whole_never stops p h visits (d ∷ es) front w (Final _ _ e due over) (Ends _ _ _ _ off end) = rw (first_is d e due) (Ends visits e es w off end)
+whole_never stops p h visits (d ∷ es) front w (Final _ _ e due over) (Continues _ _ _ _ m off goes happens later) = absurd (true≢false (sym goes ∙ over))
+whole_never stops p h visits [] front w (Then _ _ m e fs due goes happens rest) f = cc
+whole_never stops p h visits (d ∷ es) front w (Then _ _ m e fs due goes happens rest) (Ends _ _ _ _ off end) = absurd (true≢false (sym goes ∙ end))
+whole_never stops p h visits (d ∷ es) front w (Then _ _ m e fs due goes happens rest) (Continues _ _ _ _ v off on a later) =
+    let same : v ≡ m = one_world p w e v m a happens in
+    let more : NeverStops stops (Usual p) h (visits_with stops visits w e) fs m = subst (λ (y : WorldState). NeverStops stops (Usual p) h (visits_with stops visits w e) fs y) same later in
+    rw (first_is d e due) (Continues visits e es w m off on happens (whole_never stops p h (visits_with stops visits w e) es fs m rest more))
+
+-- what stops the first events stops all
+front_stops : (stops : Stops) (p : Profile) (h : Bool) (extent : Extent) (visits count : ℕ) (es front : List Event) (w : WorldState) → listed h es (Usual p) w extent front → StopsAfter stops (Usual p) h visits front w count → StopsAfter stops (Usual p) h visits es w count
+front_stops stops p h extent visits count es front w (Over _ _ none) stop = elim stop [ ]
+front_stops stops p h extent visits count [] front w (Due _ _ due step) stop = cc
+front_stops stops p h extent visits count (d ∷ es) front w (Due _ _ due step) (Here _ _ _ _ on) = rw (first_is d Step due) (Here visits Step es w on)
+front_stops stops p h extent visits count (d ∷ es) front w (Due _ _ due step) (Later _ k _ _ _ m off goes happens later) = elim later [ ]
+front_stops stops p h extent visits count [] front w (Final _ _ e due over) stop = cc
+front_stops stops p h extent visits count (d ∷ es) front w (Final _ _ e due over) (Here _ _ _ _ on) = rw (first_is d e due) (Here visits e es w on)
+front_stops stops p h extent visits count (d ∷ es) front w (Final _ _ e due over) (Later _ k _ _ _ m off goes happens later) = elim later [ ]
+front_stops stops p h extent visits count [] front w (Then _ _ m e fs due goes happens rest) stop = cc
+front_stops stops p h extent visits count (d ∷ es) front w (Then _ _ m e fs due goes happens rest) (Here _ _ _ _ on) = rw (first_is d e due) (Here visits e es w on)
+front_stops stops p h extent visits count (d ∷ es) front w (Then _ _ m e fs due goes happens rest) (Later _ k _ _ _ v off on a later) =
+    let same : v ≡ m = one_world p w e v m a happens in
+    let more : StopsAfter stops (Usual p) h (visits_with stops visits w e) fs m k = subst (λ (y : WorldState). StopsAfter stops (Usual p) h (visits_with stops visits w e) fs y k) same later in
+    rw (first_is d e due) (Later visits k e es w m off on happens (front_stops stops p h extent (visits_with stops visits w e) k es fs m rest more))
+
+-- what comes of a list are its first events
+first_ones : (p : Profile) (h : Bool) (extent : Extent) (es front rest : List Event) (w : WorldState) → listed h es (Usual p) w extent (front ++ rest) → take (length front) es ≡ front
+first_ones p h extent es [] rest w come = refl
+first_ones p h extent [] (e ∷ front) rest w (Due _ _ due step) = cc
+first_ones p h extent (d ∷ es) (e ∷ []) rest w (Due _ _ due step) = ap (λ (f : Event). f ∷ []) (first_is d e due)
+first_ones p h extent [] (e ∷ front) rest w (Final _ _ _ due over) = cc
+first_ones p h extent (d ∷ es) (e ∷ []) rest w (Final _ _ _ due over) = ap (λ (f : Event). f ∷ []) (first_is d e due)
+first_ones p h extent [] (e ∷ front) rest w (Then _ _ m _ _ due goes happens later) = cc
+first_ones p h extent (d ∷ es) (e ∷ front) rest w (Then _ _ m _ _ due goes happens later) =
+    ap (λ (f : Event). f ∷ take (length front) es) (first_is d e due) ∙ ap (λ (fs : List Event). e ∷ fs) (first_ones p h extent es front rest m later)
+
+-- a run by a course that is held is one with stops
+held_cut : (options : RunOptions) (stops : Stops) (shown : Shown) (h : Bool) (es : List Event) (image : List (Option ℕ)) (text printed punched : List ℕ) (status : Status) →
+    IsHeldToStop (listed h es) h options stops shown whole_form false image text printed punched status → IsRunWithStops options stops shown h es image text status
+held_cut options stops shown h es image text printed punched status held = by_stop held.stopped refl
+  where
+    w = fresh image options.start
+    by_stop : (stopped : Bool) → held.stopped ≡ stopped → IsRunWithStops options stops shown h es image text status
+    by_stop true is =
+        let come : listed h es (Usual options.profile) w ToStep (held.events ++ Step ∷ []) = rw is at held.come in
+        let stop : StopsAfter stops (Usual options.profile) h 0 (held.events ++ Step ∷ []) w (length held.events) = rw is at held.stop in
+        record {
+          cut = held.events;
+          stopped = true;
+          is_cut = inl (length held.events, front_stops stops options.profile h ToStep 0 (length held.events) es (held.events ++ Step ∷ []) w come stop, sym (first_ones options.profile h ToStep es held.events (Step ∷ []) w come), refl);
+          is = record { lines = held.lines; steps = held.steps; end = held.end; final = held.final; follows = held.follows; during = held.during; is_traced = held.is_traced; last = held.last; is_last = held.is_last; text_is = rw is at held.text_is; status_is = rw is at held.status_is };
+        }
+    by_stop false is =
+        let come : listed h es (Usual options.profile) w Whole held.events = rw is at held.come in
+        let stop : NeverStops stops (Usual options.profile) h 0 held.events w = rw is at held.stop in
+        record {
+          cut = es;
+          stopped = false;
+          is_cut = inr (whole_never stops options.profile h 0 es held.events w come stop, refl, refl);
+          is = record { lines = held.lines; steps = held.steps; end = held.end; final = held.final; follows = whole_list options.profile h es held.events w held.final held.lines held.steps held.end come held.follows; during = held.during; is_traced = held.is_traced; last = held.last; is_last = held.is_last; text_is = rw is at held.text_is; status_is = rw is at held.status_is };
+        }
+
+pub course_ok : (options : RunOptions) (stops : Stops) (shown : Shown) (h : Bool) (es : List Event) (image : List (Option ℕ)) (r : Result Status Fault) (old new told_old told_new held_old held_new : Option (List ℕ)) →
+    IfOk r (λ status. WritesAll (λ text printed punched. IsHeldToStop (listed h es) h options stops shown whole_form false image text printed punched status) (taken old told_old held_old) (taken new told_new held_new)) →
+    IfOk r (λ status. Writes (λ text. IsRunWithStops options stops shown h es image text status) old new)
+course_ok options stops shown h es image (Ok status) old new told_old told_new held_old held_new writes = record {
+  text = writes.text;
+  is = held_cut options stops shown h es image writes.text writes.printed writes.punched status writes.is;
+  written = writes.to_report;
 }
+course_ok options stops shown h es image (Err fault) old new told_old told_new held_old held_new writes = tt
 
-pub told_whole : (options : RunOptions) (shown : Option ℕ) (stopped ends : Bool) (events : List Event) (image : List (Option ℕ)) (p : Profile) (w x : WorldState) (ran outcome : RunOutcome) (lines : List ℕ) (status : Status) (old new : Option (List ℕ)) →
-    p ≡ options.profile → w ≡ fresh image options.start → Follows p ends events w lines ran.steps ran.end x → outcome.steps ≡ ran.steps → outcome.end ≡ told stopped ran.end x → status ≡ status_of outcome.end →
-    Appends old new (shown_of options.trace shown lines ++ closing (words options.show) outcome.end x outcome.steps) → Writes (λ text. IsRunTold options shown stopped ends events image text status) old new
-told_whole options shown stopped ends events image p w x ran outcome lines status old new profile begins follows steps ends_so is written = record {
-  text = shown_of options.trace shown lines ++ closing (words options.show) outcome.end x outcome.steps;
-  is = run_told options shown stopped ends events image p w x ran outcome lines status profile begins follows steps ends_so is;
-  written = written;
-}
+pub course_front : (options : RunOptions) (stops : Stops) (shown : Shown) (h : Bool) (es : List Event) (image : List (Option ℕ)) (old new : Option (List ℕ)) →
+    FrontOf (λ text. (printed : List ℕ) × (punched : List ℕ) × (status : Status) × IsHeldToStop (listed h es) h options stops shown whole_form false image text printed punched status) old new →
+    FrontOf (λ text. (status : Status) × IsRunWithStops options stops shown h es image text status) old new
+course_front options stops shown h es image old new front =
+    let is = front.is in
+    record { text = front.text; is = (is.2, held_cut options stops shown h es image front.text is.0 is.1 is.2 is.3); front = front.front }
 
-pub told_front : (options : RunOptions) (shown : Option ℕ) (stopped ends : Bool) (events : List Event) (image : List (Option ℕ)) (p : Profile) (w x : WorldState) (ran outcome : RunOutcome) (lines : List ℕ) (old new : Option (List ℕ)) →
-    p ≡ options.profile → w ≡ fresh image options.start → Follows p ends events w lines ran.steps ran.end x → outcome.steps ≡ ran.steps → outcome.end ≡ told stopped ran.end x →
-    AppendsFront old new (shown_of options.trace shown lines ++ closing (words options.show) outcome.end x outcome.steps) → FrontOf (IsRunText options shown stopped ends events image) old new
-told_front options shown stopped ends events image p w x ran outcome lines old new profile begins follows steps ends_so front = record {
-  text = shown_of options.trace shown lines ++ closing (words options.show) outcome.end x outcome.steps;
-  is = (status_of outcome.end, run_told options shown stopped ends events image p w x ran outcome lines (status_of outcome.end) profile begins follows steps ends_so refl);
-  front = front;
-}
+-- without stops it is the run of all events
+pub run_of_all : (options : RunOptions) (stops : Stops) (h : Bool) (es : List Event) (image : List (Option ℕ)) (text : List ℕ) (status : Status) → AreNone stops → IsRunWithStops options stops no_last h es image text status → IsRunOf options h es image text status
+run_of_all options stops h es image text status none run = elim run.is_cut [
+  | inl k ↦ absurd (none_after stops options.profile h 0 es (fresh image options.start) k.0 none k.1)
+  | inr k ↦ (let told = run.is in
+    let during = told.is_traced in
+    let last = told.is_last in
+    record { lines = told.lines; steps = told.steps; end = told.end; final = told.final; follows = rw k.1 at told.follows; text_is = rw (k.2, during, last) at told.text_is; status_is = rw k.2 at told.status_is })
+]
 
--- the trace, and then the summary
-pub run_whole : (options : RunOptions) (stopped ends : Bool) (events : List Event) (image : List (Option ℕ)) (p : Profile) (w x : WorldState) (ran outcome : RunOutcome) (status : Status) (old mid new : Option (List ℕ)) →
-    p ≡ options.profile → w ≡ fresh image options.start → Ran p ends options.trace events w ran x old mid → outcome.steps ≡ ran.steps → outcome.end ≡ told stopped ran.end x →
-    Appends mid new (closing (words options.show) outcome.end x outcome.steps) → status ≡ status_of outcome.end → Writes (λ text. IsRunTold options None stopped ends events image text status) old new
-run_whole options stopped ends events image p w x ran outcome status old mid new profile begins come steps ends_so written is =
-    told_whole options None stopped ends events image p w x ran outcome come.lines status old new profile begins come.follows steps ends_so is
-    (Appends-trans old mid new (traced options.trace come.lines) (closing (words options.show) outcome.end x outcome.steps) come.wrote written)
+pub all_ok : (options : RunOptions) (stops : Stops) (h : Bool) (es : List Event) (image : List (Option ℕ)) (r : Result Status Fault) (old new : Option (List ℕ)) → AreNone stops →
+    IfOk r (λ status. Writes (λ text. IsRunWithStops options stops no_last h es image text status) old new) → IfOk r (λ status. Writes (λ text. IsRunOf options h es image text status) old new)
+all_ok options stops h es image (Ok status) old new none writes = record { text = writes.text; is = run_of_all options stops h es image writes.text status none writes.is; written = writes.written }
+all_ok options stops h es image (Err fault) old new none writes = tt
 
-pub run_front : (options : RunOptions) (stopped ends : Bool) (events : List Event) (image : List (Option ℕ)) (p : Profile) (w x : WorldState) (ran outcome : RunOutcome) (old mid new : Option (List ℕ)) →
-    p ≡ options.profile → w ≡ fresh image options.start → Ran p ends options.trace events w ran x old mid → outcome.steps ≡ ran.steps → outcome.end ≡ told stopped ran.end x →
-    AppendsFront mid new (closing (words options.show) outcome.end x outcome.steps) → FrontOf (IsPartOf options stopped ends events image) old new
-run_front options stopped ends events image p w x ran outcome old mid new profile begins come steps ends_so front =
-    let whole = told_front options None stopped ends events image p w x ran outcome come.lines old new profile begins come.follows steps ends_so
-    (front_after old mid new (traced options.trace come.lines) (closing (words options.show) outcome.end x outcome.steps) come.wrote front) in
-    record { text = whole.text; is = inl whole.is; front = whole.front }
-
--- the lines of the events before one that puts out a byte, and no more
-trace_only : (options : RunOptions) (ends : Bool) (events : List Event) (image : List (Option ℕ)) (p : Profile) (w : WorldState) (old new : Option (List ℕ)) →
-    p ≡ options.profile → w ≡ fresh image options.start → options.trace ≡ true → Writes (IsTraceUpToOutput p ends events w) old new →
-    Writes (IsTraceToOutput options ends events image) old new
-trace_only options ends events image p w old new profile begins asked wrote = record {
-  text = wrote.text;
-  is = record { asked = asked; is = let some : IsTraceUpToOutput p ends events w wrote.text = wrote.is in rw (profile, begins) at some };
-  written = wrote.written;
-}
-
-pub trace_refused : (options : RunOptions) (ends : Bool) (events : List Event) (image : List (Option ℕ)) (p : Profile) (w x : WorldState) (old new : Option (List ℕ)) →
-    p ≡ options.profile → w ≡ fresh image options.start → options.trace ≡ true → RanToOutput p ends options.trace events w x old new →
-    Writes (IsTraceToOutput options ends events image) old new
-trace_refused options ends events image p w x old new profile begins asked ran =
-    trace_only options ends events image p w old new profile begins asked (output_traced p ends options.trace events w x old new ran asked)
-
--- the lines of the whole run, and no summary
-pub trace_whole : (options : RunOptions) (ends : Bool) (events : List Event) (image : List (Option ℕ)) (p : Profile) (w x : WorldState) (outcome : RunOutcome) (old new : Option (List ℕ)) →
-    p ≡ options.profile → w ≡ fresh image options.start → options.trace ≡ true → Ran p ends options.trace events w outcome x old new →
-    Writes (IsTraceToOutput options ends events image) old new
-trace_whole options ends events image p w x outcome old new profile begins asked ran =
-    trace_only options ends events image p w old new profile begins asked (ran_whole p ends options.trace events w x outcome old new ran asked)
-
-pub trace_front : (options : RunOptions) (stopped ends : Bool) (events : List Event) (image : List (Option ℕ)) (p : Profile) (w : WorldState) (old new : Option (List ℕ)) →
-    p ≡ options.profile → w ≡ fresh image options.start → options.trace ≡ true → FrontOf (IsTraceOfSome p ends events w) old new →
-    FrontOf (IsPartOf options stopped ends events image) old new
-trace_front options stopped ends events image p w old new profile begins asked front = record {
-  text = front.text;
-  is = inr (record { asked = asked; is = let some : IsTraceOfSome p ends events w front.text = front.is in rw (profile, begins) at some });
-  front = front.front;
-}
-
--- reading a tape takes no memory
-pub tape_wants_none : {T : Type 0} (tape : Input) (r : Result T Fault) → IfErr r (IsTapeInputFault tape) → r ≡ Err NoMemory → ⊥
-tape_wants_none tape r is same = rw same at is
-
--- a text for which memory was refused has come in part
-pub text_came : {T : Type 0} (text : Input) (r : Result T Fault) → IfErr r (IsEventsInputFault text) → r ≡ Err NoMemory → HasCome text
-text_came text r is same = rw same at is
-
--- memory was refused in the run itself
-refused_run : {T : Type 0} (P : List ℕ → Type 0) (asked : Bool) (r : Result T Fault) (marked : Bool) (old new : Option (List ℕ)) → marked ≡ fails_to_write r →
-    OnErr r (marked ≡ false → asked ≡ true → Writes P old new) → r ≡ Err NoMemory → asked ≡ true → Writes P old new
-refused_run P asked r marked old new marks wrote same =
-    let unmarked : marked ≡ false = rw same at marks in
-    let told : marked ≡ false → asked ≡ true → Writes P old new = rw same at wrote in
-    told unmarked
-
-pub refused_rounds : (options : RunOptions) (frames : Option (List ℕ)) (image : List (Option ℕ)) (r : Result Status Fault) (marked : Bool) (old new : Option (List ℕ)) → HasImage frames image → marked ≡ fails_to_write r →
-    OnErr r (marked ≡ false → options.trace ≡ true → Writes (IsTraceToOutput options true (rounds options.rounds) image) old new) → r ≡ Err NoMemory → options.trace ≡ true → Writes (IsTraceOfRounds options frames) old new
-refused_rounds options frames image r marked old new tape marks wrote same asked =
-    let w = refused_run (IsTraceToOutput options true (rounds options.rounds) image) options.trace r marked old new marks wrote same asked in
-    record { text = w.text; is = record { image = image; tape = tape; is = w.is }; written = w.written }
-
-pub refused_events : (options : RunOptions) (frames list : Option (List ℕ)) (image : List (Option ℕ)) (events : List Event) (r : Result Status Fault) (marked : Bool) (old new : Option (List ℕ)) (X : Type 0) →
-    HasImage frames image → HasEvents list events → marked ≡ fails_to_write r →
-    OnErr r (marked ≡ false → options.trace ≡ true → Writes (IsTraceToOutput options false events image) old new) → r ≡ Err NoMemory → options.trace ≡ true → X ⊎ Writes (IsTraceOfEvents options frames list) old new
-refused_events options frames list image events r marked old new X tape spelled marks wrote same asked =
-    let w = refused_run (IsTraceToOutput options false events image) options.trace r marked old new marks wrote same asked in
-    inr (record { text = w.text; is = record { image = image; tape = tape; events = events; spelled = spelled; is = w.is }; written = w.written })
+pub all_front : (options : RunOptions) (stops : Stops) (h : Bool) (es : List Event) (image : List (Option ℕ)) (old new : Option (List ℕ)) → AreNone stops →
+    FrontOf (λ text. (status : Status) × IsRunWithStops options stops no_last h es image text status) old new → FrontOf (λ text. (status : Status) × IsRunOf options h es image text status) old new
+all_front options stops h es image old new none front = record { text = front.text; is = (front.is.0, run_of_all options stops h es image front.text front.is.0 none front.is.1); front = front.front }

@@ -17,18 +17,16 @@ use Rattle.peripherals.specs.declared.Seen.{Seen}
 use Rattle.peripherals.specs.declared.Seen.TheVariants as seen
 use Rattle.peripherals.specs.declared.operator.Operator.{Operator}
 use Rattle.peripherals.specs.Devices.{Devices, Writer, WorldState, Instructs, word_at_pc, devices_after, fetches, clears_keyboard, given, fetched, with_writer_flag, with_reader_flag, with_keyboard_flag}
-use Rattle.peripherals.specs.Events.{Happens, Steps, completed, done, with_devices}
+use Rattle.peripherals.specs.Events.{Happens, Steps}
 use Rattle.peripherals.specs.Operator.{Plan, due, first_due, frame_due, key_due, left_after, plan_of, round_due}
 use Rattle.peripherals.specs.EventOutcomes.{seen_of}
-use Rattle.machine_commands.specs.Course.{Ran}
-use Rattle.machine_commands.specs.Follows.{goes_on, counted}
+use Rattle.machine_commands.specs.Driving.{printed_from}
+use Rattle.machine_commands.specs.Follows.{Conduct, Declared, Usual, counted, happens_by, seen_by}
 use Rattle.command_parts.specs.Inputs.{AreFirst}
-use Rattle.machine_commands.specs.Schedule.{Comes, Due, Final, Then, Extent, ToStep, first_place, operating}
+use Rattle.machine_commands.specs.Schedule.{ComesBy, Due, Final, Then, Extent, ToStep, first_place, operating}
 use Rattle.machine_commands.specs.Session.{WritesAll, character, printed_in, taken, Taken}
-use Rattle.machine_commands.specs.SessionParts.{IsNext, events_left, has_stepped, place_of, printed_from, rank, steps_in}
+use Rattle.machine_commands.specs.SessionParts.{IsNext, events_left, place_of, rank, steps_in}
 use Rattle.machine_commands.specs.TypingParts.{rounds_left}
-use Rattle.machine_commands.specs.Trace.{line_of, trace_of, traced}
-use Rattle.machine_commands.proofs.FollowLemmas.{Came, joined, leads_both, leads_one}
 
 pub or_left : (a b : Bool) → a || b ≡ false → a ≡ false
 or_left true b is = is
@@ -103,92 +101,68 @@ grows p w x Continue happens = rw happens (stays w.devices.printer.output)
 rest_is : (old new : List ℕ) → Grows old new → new ≡ old ++ drop (length old) new
 rest_is old new g = g.is ∙ ap (λ (l : List ℕ). old ++ l) (sym (drop-appended old new g.more g.is))
 
+grows_by : (c : Conduct) (w x : WorldState) (e : Event) → happens_by c w e x → Grows w.devices.printer.output x.devices.printer.output
+grows_by (Usual p) w x e happens = grows p w x e happens
+grows_by (Declared d) w x Step happens = grows d.profile w x Step happens
+grows_by (Declared d) w x (Key byte) happens = grows d.profile w x (Key byte) happens
+grows_by (Declared d) w x PrinterDone happens = grows d.profile w x PrinterDone happens
+grows_by (Declared d) w x (ReaderDone byte) happens = grows d.profile w x (ReaderDone byte) happens
+grows_by (Declared d) w x PunchDone happens = grows d.profile w x PunchDone happens
+grows_by (Declared d) w x (Switches word) happens = grows d.profile w x (Switches word) happens
+grows_by (Declared d) w x Continue happens = rw happens (stays w.devices.printer.output)
+
 -- what was printed with what an event printed
-pub printed_more : (p : Profile) (w x : WorldState) (e : Event) → Happens p w e x → printed_in x ≡ printed_in w ++ printed_from w x
-printed_more p w x e happens =
-    let all = rest_is w.devices.printer.output x.devices.printer.output (grows p w x e happens) in
+printed_more : (c : Conduct) (w x : WorldState) (e : Event) → happens_by c w e x → printed_in x ≡ printed_in w ++ printed_from w x
+printed_more c w x e happens =
+    let all = rest_is w.devices.printer.output x.devices.printer.output (grows_by c w x e happens) in
     ap (map character) all ∙ map-append character w.devices.printer.output (drop (length w.devices.printer.output) x.devices.printer.output)
 
-pub came_next : (p : Profile) (trace : Bool) (es : List Event) (e : Event) (w x y : WorldState) (n : ℕ) (what : Seen) (old mid new : Option (List ℕ)) →
-    Came p true trace es w n x old mid → seen_of p x e ≡ what → goes_on true what ≡ true → Happens p x e y → Appends mid new (traced trace (trace_of p x e y)) →
-    Came p true trace (es ++ e ∷ []) w (n + counted what) y old new
-came_next p trace es e w x y n what old mid new came sees goes happens wrote = record {
-  lines = came.lines ++ trace_of p x e y;
-  leads = leads_both p true es (e ∷ []) w x y came.lines (trace_of p x e y) n (counted what) came.leads (leads_one p true e x y what sees goes happens);
-  wrote = joined trace old mid new came.lines (trace_of p x e y) came.wrote wrote;
-}
+pub printed_next : (c : Conduct) (x y : WorldState) (e : Event) (told mid tells : Option (List ℕ)) → happens_by c x e y → Appends told mid (printed_in x) → Appends mid tells (printed_from x y) → Appends told tells (printed_in y)
+printed_next c x y e told mid tells happens before after =
+    rw (printed_more c x y e happens) (Appends-trans told mid tells (printed_in x) (printed_from x y) before after)
 
-pub printed_next : (p : Profile) (x y : WorldState) (e : Event) (told mid tells : Option (List ℕ)) → Happens p x e y → Appends told mid (printed_in x) → Appends mid tells (printed_from x y) → Appends told tells (printed_in y)
-printed_next p x y e told mid tells happens before after =
-    rw (printed_more p x y e happens) (Appends-trans told mid tells (printed_in x) (printed_from x y) before after)
+-- nothing is printed where nothing changes
+pub printed_none : (x : WorldState) → printed_from x x ≡ []
+printed_none x = ap (map character) (drop_all (length x.devices.printer.output) x.devices.printer.output (omega arith))
 
 -- the event that is due comes after those before
 pub one_more : (es : List Event) (e : Event) (rest : List Event) → (es ++ e ∷ []) ++ rest ≡ es ++ (e ∷ rest)
 one_more es e rest = append_assoc es (e ∷ []) rest
 
--- what is seen of an event that changes a device, where it is enabled
-abbrev device_seen : Bool → Seen
-device_seen enabled = if enabled then seen.Changed else seen.NotEnabled
-
-pub device_goes : (enabled : Bool) → goes_on true (device_seen enabled) ≡ true
-device_goes true = refl
-device_goes false = refl
-
-device_counts : (enabled : Bool) → counted (device_seen enabled) ≡ 0
+-- what is seen of an event that changes a device, where it is enabled, is no instruction
+device_counts : (enabled : Bool) → counted (if enabled then seen.Changed else seen.NotEnabled) ≡ 0
 device_counts true = refl
 device_counts false = refl
 
-device_line : (p : Profile) (enabled trace : Bool) (at word : ℕ) (s : State) → traced trace (line_of p (device_seen enabled) at word s) ≡ []
-device_line p true true at word s = refl
-device_line p true false at word s = refl
-device_line p false true at word s = refl
-device_line p false false at word s = refl
+seen_within : (what : Seen) → counted what ≤ 1
+seen_within seen.Ran = omega arith
+seen_within seen.Halted = omega arith
+seen_within seen.NotEnabled = omega arith
+seen_within seen.Changed = omega arith
+seen_within (seen.Unsupported word) = omega arith
 
-pub output_stays : (busy : Bool) (d : Writer) → (if busy then record d { busy = false; flag = true } else d).output ≡ d.output
-output_stays true d = refl
-output_stays false d = refl
+none_within : (n : ℕ) → n ≡ 0 → n ≤ 0
+none_within n is = omega (arith, is)
 
-abbrev pub printer_done : WorldState → WorldState
-printer_done w = with_devices w (record w.devices { printer = done w.devices.printer })
+usual_within : (p : Profile) (w : WorldState) (e : Event) → counted (seen_of p w e) ≤ steps_in e
+usual_within p w Step = seen_within (seen_of p w Step)
+usual_within p w (Key byte) = none_within _ (device_counts true)
+usual_within p w PrinterDone = none_within _ (device_counts w.devices.printer.busy)
+usual_within p w (ReaderDone byte) = none_within _ (device_counts w.devices.reader.fetching)
+usual_within p w PunchDone = none_within _ (device_counts w.devices.punch.busy)
+usual_within p w (Switches word) = none_within _ (device_counts true)
+usual_within p w Continue = none_within _ (device_counts (is_some w.halted_at))
 
--- such an event writes nothing, and prints nothing where the output stays
-pub device_came : (p : Profile) (trace : Bool) (es : List Event) (w x y : WorldState) (n : ℕ) (e : Event) (enabled : Bool) (old new : Option (List ℕ)) →
-    Came p true trace es w n x old new → Happens p x e y → seen_of p x e ≡ device_seen enabled → Came p true trace (es ++ e ∷ []) w n y old new
-device_came p trace es w x y n e enabled old new came happens is =
-    let none : Appends new new (traced trace (trace_of p x e y)) = rw (is, device_line p enabled trace x.state.pc (word_at_pc x) y.state) (Appends-nil new) in
-    let next : Came p true trace (es ++ e ∷ []) w (n + counted (device_seen enabled)) y old new = came_next p trace es e w x y n (device_seen enabled) old new new came is (device_goes enabled) happens none in
-    rw (device_counts enabled, add-zero n) at next
-
-not_ran : (enabled : Bool) → seen.Ran ≡ device_seen enabled → ⊥
-not_ran true is = cc
-not_ran false is = cc
-
-not_halted : (enabled : Bool) → seen.Halted ≡ device_seen enabled → ⊥
-not_halted true is = cc
-not_halted false is = cc
-
--- an instruction was carried out by a step alone
-pub ran_is_step : (p : Profile) (w : WorldState) (e : Event) → seen.Ran ≡ seen_of p w e → e ≡ Step
-ran_is_step p w Step is = refl
-ran_is_step p w (Key byte) is = absurd (not_ran true is)
-ran_is_step p w PrinterDone is = absurd (not_ran w.devices.printer.busy is)
-ran_is_step p w (ReaderDone byte) is = absurd (not_ran w.devices.reader.fetching is)
-ran_is_step p w PunchDone is = absurd (not_ran w.devices.punch.busy is)
-ran_is_step p w (Switches word) is = absurd (not_ran true is)
-ran_is_step p w Continue is = absurd (not_ran (is_some w.halted_at) is)
-
--- and a step counts as one
-pub ran_counts : (p : Profile) (w : WorldState) (e : Event) → seen.Ran ≡ seen_of p w e → steps_in e ≡ 1
-ran_counts p w e is = rw (ran_is_step p w e is) refl
-
-pub halted_is_step : (p : Profile) (w : WorldState) (e : Event) → seen.Halted ≡ seen_of p w e → steps_in e ≡ 1
-halted_is_step p w Step is = refl
-halted_is_step p w (Key byte) is = absurd (not_halted true is)
-halted_is_step p w PrinterDone is = absurd (not_halted w.devices.printer.busy is)
-halted_is_step p w (ReaderDone byte) is = absurd (not_halted w.devices.reader.fetching is)
-halted_is_step p w PunchDone is = absurd (not_halted w.devices.punch.busy is)
-halted_is_step p w (Switches word) is = absurd (not_halted true is)
-halted_is_step p w Continue is = absurd (not_halted (is_some w.halted_at) is)
+-- a step alone carries out an instruction
+pub counted_within : (c : Conduct) (w : WorldState) (e : Event) → counted (seen_by c w e) ≤ steps_in e
+counted_within (Usual p) w e = usual_within p w e
+counted_within (Declared d) w Step = seen_within (seen_of d.profile w Step)
+counted_within (Declared d) w (Key byte) = omega arith
+counted_within (Declared d) w PrinterDone = omega arith
+counted_within (Declared d) w (ReaderDone byte) = omega arith
+counted_within (Declared d) w PunchDone = omega arith
+counted_within (Declared d) w (Switches word) = omega arith
+counted_within (Declared d) w Continue = omega arith
 
 -- an event that is due leaves fewer events, and an instruction takes a round
 pub record Less (rounds : ℕ) (last : Option Event) (e : Event) : Type 0 where
@@ -252,22 +226,11 @@ due_counts plan after w last e is left = rw (left, rounds_after e plan) (due_les
 
 -- what is due with an operator comes next
 pub operator_next : (old new : Operator) (w : WorldState) (e : Event) → due (plan_of old) w old.last ≡ Some e → plan_of new ≡ left_after e (plan_of old) → new.last ≡ Some e →
-    IsNext (λ (o : Operator) (p : Profile) (v : WorldState) (extent : Extent) (es : List Event). Comes operating p extent (place_of o) v es) old new w e
+    IsNext (λ (o : Operator) (c : Conduct) (v : WorldState) (extent : Extent) (es : List Event). ComesBy operating true c extent (place_of o) v es) true old new w e
 operator_next old new w e is left next = record {
-  on = λ p m extent es goes happens comes. Then (place_of old) w m e es is goes happens (rw (left, next) at comes);
-  last = λ p extent ends. Final (place_of old) w e is ends;
+  on = λ c m extent es goes happens comes. Then (place_of old) w m e es is goes happens (rw (left, next) at comes);
+  last = λ c extent ends. Final (place_of old) w e is ends;
 }
-
--- the last event was an instruction
-pub step_was : (last : Option Event) → has_stepped last ≡ true → last ≡ Some Step
-step_was (Some Step) is = refl
-step_was None is = absurd (true≢false (sym is))
-step_was (Some (Key key)) is = absurd (true≢false (sym is))
-step_was (Some PrinterDone) is = absurd (true≢false (sym is))
-step_was (Some (ReaderDone frame)) is = absurd (true≢false (sym is))
-step_was (Some PunchDone) is = absurd (true≢false (sym is))
-step_was (Some (Switches word)) is = absurd (true≢false (sym is))
-step_was (Some Continue) is = absurd (true≢false (sym is))
 
 -- an answer that is one
 pub ok_is : {T E : Type 0} (a b : T) (r : Result T E) → r ≡ Ok a → r ≡ Ok b → a ≡ b
@@ -275,7 +238,7 @@ ok_is a b r one other = let same : Ok a ≡ Ok b = sym one ∙ other in cc
 
 -- what an operator answers
 pub some_next : (o : Option Event) (old new : Operator) (w : WorldState) → o ≡ due (plan_of old) w old.last → IfSome o (λ e. plan_of new ≡ left_after e (plan_of old)) → IfSome o (λ e. new.last ≡ Some e) →
-    IfSome o (IsNext (λ (o : Operator) (p : Profile) (v : WorldState) (extent : Extent) (es : List Event). Comes operating p extent (place_of o) v es) old new w)
+    IfSome o (IsNext (λ (o : Operator) (c : Conduct) (v : WorldState) (extent : Extent) (es : List Event). ComesBy operating true c extent (place_of o) v es) true old new w)
 some_next None old new w is left last = tt
 some_next (Some e) old new w is left last = operator_next old new w e (sym is) left last
 
@@ -291,30 +254,9 @@ some_counts (Some e) old new w is left = due_counts (plan_of old) (plan_of new) 
 
 -- a step that is due may be told as the last event
 pub some_to_step : (o : Option Event) (old : Operator) (w : WorldState) → o ≡ due (plan_of old) w old.last →
-    IfSome o (λ e. e ≡ Step → (p : Profile) → Comes operating p ToStep (place_of old) w (Step ∷ []))
+    IfSome o (λ e. e ≡ Step → (c : Conduct) → ComesBy operating true c ToStep (place_of old) w (Step ∷ []))
 some_to_step None old w is = tt
-some_to_step (Some e) old w is = λ steps p. Due (place_of old) w (rw steps at (sym is)) tt
-
-pub some_stepped : (o : Option Event) (last : Option Event) → IfSome o (λ e. last ≡ Some e) → IfSome o (λ e. e ≡ Step → has_stepped last ≡ true)
-some_stepped None last is = tt
-some_stepped (Some e) last is = λ step. rw (is, step) refl
-
--- after an instruction the two completions are due, with an operator
-pub operator_completes : (old new : Operator) (w : WorldState) (p : Profile) (extent : Extent) (es : List Event) → has_stepped old.last ≡ true → plan_of new ≡ plan_of old → new.last ≡ Some PunchDone →
-    Comes operating p extent (place_of new) (completed w) es → Comes operating p extent (place_of old) w (PrinterDone ∷ PunchDone ∷ es)
-operator_completes old new w p extent es stepped left last comes =
-    let begins : old.last ≡ Some Step = step_was old.last stepped in
-    let mid = printer_done w in
-    let after : Comes operating p extent (record { plan = plan_of old; last = Some PunchDone }) (completed w) es = rw (left, last) at comes in
-    let half : Comes operating p extent (record { plan = plan_of old; last = Some PrinterDone }) mid (PunchDone ∷ es) =
-    Then (record { plan = plan_of old; last = Some PrinterDone }) mid (completed w) PunchDone es refl (device_goes mid.devices.punch.busy) refl after in
-    rw begins (Then (record { plan = plan_of old; last = Some Step }) w mid PrinterDone (PunchDone ∷ es) refl (device_goes w.devices.printer.busy) refl half)
-
--- with an operator fewer events are left after the completions
-pub completed_fewer : (old new : Operator) → has_stepped old.last ≡ true → plan_of new ≡ plan_of old → new.last ≡ Some PunchDone → events_left (plan_of new) new.last ≤ events_left (plan_of old) old.last
-completed_fewer old new stepped left last =
-    let rounds : new.rounds ≡ old.rounds = ap (λ (q : Plan). q.rounds) left in
-    rw (rounds, last, step_was old.last stepped) (omega arith)
+some_to_step (Some e) old w is = λ steps c. Due (place_of old) w (rw steps at (sym is)) tt
 
 -- Bytes that are typed one by one: these went out, and with those still to come they are all.
 pub record Typed (told now : Option (List ℕ)) (bytes : List ℕ) (from index : ℕ) : Type 0 where

@@ -21,22 +21,23 @@ use Rattle.peripherals.specs.Events.{Happens}
 use Rattle.peripherals.specs.EventOutcomes.{seen_of}
 use Rattle.peripherals.proofs.OneLemmas.{one_world}
 use Rattle.machine_commands.specs.declared.follow.End.{End}
-use Rattle.machine_commands.specs.Follows.{Follows, Ended, Stuck, Stopped, Went, counted, goes_on}
+use Rattle.machine_commands.specs.Follows.{Conduct, Follows, Ended, Stuck, Stopped, Usual, Went, counted, goes_on}
+use Rattle.machine_commands.specs.Last.{no_last}
 use Rattle.machine_commands.specs.Running.{fresh}
 use Rattle.machine_commands.specs.StopLaws.{AreNone, GoesOnTo, SessionsWithoutStops, StoppedIsNotNever, StoppedRunsAreFronts, StopsAreOne, TypedWithoutStops}
 use Rattle.machine_commands.specs.Schedule.{Extent}
-use Rattle.machine_commands.specs.Session.{IsHeld, comes_by}
+use Rattle.machine_commands.specs.Session.{IsHeld, brought_by}
 use Rattle.machine_commands.specs.StoppedSession.{IsHeldToStop, StoppedSo}
-use Rattle.machine_commands.specs.Teletype.{run_of, types_by}
+use Rattle.machine_commands.specs.Teletype.{run_of, typed_by}
 use Rattle.machine_commands.specs.Stops.{Ends, Continues, Here, Later, NeverStops, StopsAfter, is_asked_for, is_at, loads_there, reads_one, stores_there, stops_before, visits_with, writes_one}
 use Rattle.machine_commands.specs.Trace.{trace_of, traced}
 use Rattle.std.proofs.lemmas.Bool.{true≢false}
 
 -- a run that goes on is neither stuck nor over
-not_stuck : (h : Bool) (what : Seen) (word : ℕ) → what ≡ seen.Unsupported word → goes_on h what ≡ true → ⊥
+pub not_stuck : (h : Bool) (what : Seen) (word : ℕ) → what ≡ seen.Unsupported word → goes_on h what ≡ true → ⊥
 not_stuck h what word is on = let no : goes_on h what ≡ false = ap (goes_on h) is in cc
 
-not_halted : (h : Bool) (what : Seen) → h ≡ true → what ≡ seen.Halted → goes_on h what ≡ true → ⊥
+pub not_halted : (h : Bool) (what : Seen) → h ≡ true → what ≡ seen.Halted → goes_on h what ≡ true → ⊥
 not_halted true what ends is on = let no : goes_on true what ≡ false = ap (goes_on true) is in cc
 not_halted false what ends is on = cc
 
@@ -72,7 +73,7 @@ joined_lines : (a b c ls more : List ℕ) (whole lines : List ℕ) → whole ≡
 joined_lines a b c ls more whole lines w l same rest = w ∙ (rw (same, rest, l) (sym (append_assoc c ls more)))
 
 fronts : (stops : Stops) (p : Profile) (h : Bool) (visits : ℕ) (es : List Event) (w x final : WorldState) (count steps all : ℕ) (lines whole : List ℕ) (end last : End) →
-    StopsAfter stops p h visits es w count → Follows p h (take count es) w lines steps end x → Follows p h es w whole all last final →
+    StopsAfter stops (Usual p) h visits es w count → Follows p h (take count es) w lines steps end x → Follows p h es w whole all last final →
     GoesOnTo p h (drop count es) x lines whole steps all last final
 fronts stops p h visits [] w x final count steps all lines whole end last none first run = elim none [ ]
 fronts stops p h visits (e ∷ fs) w x final count steps all lines whole end last (Here _ _ _ _ on) first run = none_first p h (e ∷ fs) w x final steps all lines whole end last first run
@@ -81,7 +82,7 @@ fronts stops p h visits (e ∷ fs) w x final count steps all lines whole end las
     let b : WentOn p h e fs w whole all last final = went_on p h e fs w whole all last final goes run in
     let here : m ≡ a.world = one_world p w e m a.world happens a.happens in
     let there : b.world ≡ a.world = one_world p w e b.world a.world b.happens a.happens in
-    let stop : StopsAfter stops p h (visits_with stops visits w e) fs a.world k = subst (λ (y : WorldState). StopsAfter stops p h (visits_with stops visits w e) fs y k) here later in
+    let stop : StopsAfter stops (Usual p) h (visits_with stops visits w e) fs a.world k = subst (λ (y : WorldState). StopsAfter stops (Usual p) h (visits_with stops visits w e) fs y k) here later in
     let rest : Follows p h fs a.world b.after b.steps last final = subst (λ (y : WorldState). Follows p h fs y b.after b.steps last final) there b.rest in
     let more : GoesOnTo p h (drop k fs) x a.after b.after a.steps b.steps last final = fronts stops p h (visits_with stops visits w e) fs a.world x final k a.steps b.steps a.after b.after end last stop a.rest rest in
     record {
@@ -96,25 +97,25 @@ pub stopped_runs_are_fronts : StoppedRunsAreFronts
 stopped_runs_are_fronts stops p h es w x final count steps all lines whole end last = fronts stops p h 0 es w x final count steps all lines whole end last
 
 one_stop : (stops : Stops) (p : Profile) (h : Bool) (visits : ℕ) (es : List Event) (w : WorldState) (count other : ℕ) →
-    StopsAfter stops p h visits es w count → StopsAfter stops p h visits es w other → count ≡ other
+    StopsAfter stops (Usual p) h visits es w count → StopsAfter stops (Usual p) h visits es w other → count ≡ other
 one_stop stops p h visits es w count other (Here _ e fs _ on) (Here _ _ _ _ on') = refl
 one_stop stops p h visits es w count other (Here _ e fs _ on) (Later _ k _ _ _ m off goes happens later) = absurd (true≢false (sym on ∙ off))
 one_stop stops p h visits es w count other (Later _ k e fs _ m off goes happens later) (Here _ _ _ _ on) = absurd (true≢false (sym on ∙ off))
 one_stop stops p h visits es w count other (Later _ k e fs _ m off goes happens later) (Later _ j _ _ _ n off' goes' happens' later') =
     let same : n ≡ m = one_world p w e n m happens' happens in
-    ap suc (one_stop stops p h (visits_with stops visits w e) fs m k j later (subst (λ (y : WorldState). StopsAfter stops p h (visits_with stops visits w e) fs y j) same later'))
+    ap suc (one_stop stops p h (visits_with stops visits w e) fs m k j later (subst (λ (y : WorldState). StopsAfter stops (Usual p) h (visits_with stops visits w e) fs y j) same later'))
 
 pub stops_are_one : StopsAreOne
 stops_are_one stops p h es w count other = one_stop stops p h 0 es w count other
 
 not_never : (stops : Stops) (p : Profile) (h : Bool) (visits : ℕ) (es : List Event) (w : WorldState) (count : ℕ) →
-    StopsAfter stops p h visits es w count → NeverStops stops p h visits es w → ⊥
+    StopsAfter stops (Usual p) h visits es w count → NeverStops stops (Usual p) h visits es w → ⊥
 not_never stops p h visits es w count (Here _ e fs _ on) (Ends _ _ _ _ off over) = absurd (true≢false (sym on ∙ off))
 not_never stops p h visits es w count (Here _ e fs _ on) (Continues _ _ _ _ m off goes happens never) = absurd (true≢false (sym on ∙ off))
 not_never stops p h visits es w count (Later _ k e fs _ m off goes happens later) (Ends _ _ _ _ off' over) = absurd (true≢false (sym goes ∙ over))
 not_never stops p h visits es w count (Later _ k e fs _ m off goes happens later) (Continues _ _ _ _ n off' goes' happens' never) =
     let same : n ≡ m = one_world p w e n m happens' happens in
-    not_never stops p h (visits_with stops visits w e) fs m k later (subst (λ (y : WorldState). NeverStops stops p h (visits_with stops visits w e) fs y) same never)
+    not_never stops p h (visits_with stops visits w e) fs m k later (subst (λ (y : WorldState). NeverStops stops (Usual p) h (visits_with stops visits w e) fs y) same never)
 
 pub stopped_is_not_never : StoppedIsNotNever
 stopped_is_not_never stops p h es w count = not_never stops p h 0 es w count
@@ -157,28 +158,29 @@ none_stops stops p visits w PunchDone none = refl
 none_stops stops p visits w (Switches word) none = refl
 none_stops stops p visits w Continue none = refl
 
-none_after : (stops : Stops) (p : Profile) (h : Bool) (visits : ℕ) (es : List Event) (w : WorldState) (count : ℕ) → AreNone stops → StopsAfter stops p h visits es w count → ⊥
+pub none_after : (stops : Stops) (p : Profile) (h : Bool) (visits : ℕ) (es : List Event) (w : WorldState) (count : ℕ) → AreNone stops → StopsAfter stops (Usual p) h visits es w count → ⊥
 none_after stops p h visits es w count none (Here _ e fs _ on) = absurd (true≢false (sym on ∙ none_stops stops p visits w e none))
 none_after stops p h visits es w count none (Later _ k e fs _ m off goes happens later) = none_after stops p h (visits_with stops visits w e) fs m k none later
 
-not_stopped : (stops : Stops) (p : Profile) (stopped : Bool) (es : List Event) (w : WorldState) → AreNone stops → StoppedSo stops p stopped es w → stopped ≡ false
+not_stopped : (stops : Stops) (p : Profile) (stopped : Bool) (es : List Event) (w : WorldState) → AreNone stops → StoppedSo stops (Usual p) true stopped es w → stopped ≡ false
 not_stopped stops p true es w none stop = absurd (none_after stops p true 0 (es ++ Step ∷ []) w (length es) none stop)
 not_stopped stops p false es w none stop = refl
 
-held_without_stops : (comes : Profile → WorldState → Extent → List Event → Type 0) (options : RunOptions) (stops : Stops) (form : SummaryForm) (image : List (Option ℕ)) (text printed punched : List ℕ) (status : Status) →
-    AreNone stops → IsHeldToStop comes options stops None form false image text printed punched status → IsHeld comes options form image text printed punched status
+held_without_stops : (comes : Conduct → WorldState → Extent → List Event → Type 0) (options : RunOptions) (stops : Stops) (form : SummaryForm) (image : List (Option ℕ)) (text printed punched : List ℕ) (status : Status) →
+    AreNone stops → IsHeldToStop comes true options stops no_last form false image text printed punched status → IsHeld (λ p w extent es. comes (Usual p) w extent es) options form image text printed punched status
 held_without_stops comes options stops form image text printed punched status none held =
     let un = not_stopped stops options.profile held.stopped held.events (fresh image options.start) none held.stop in
-    let front : held.front ≡ traced options.trace held.lines = held.front_is in
+    let during : held.during ≡ traced options.trace held.lines = held.is_traced in
+    let last : held.last ≡ [] = held.is_last in
     record {
       events = held.events;
       come = rw un at held.come;
       lines = held.lines;
       steps = held.steps;
-      end = held.last;
+      end = held.end;
       final = held.final;
       follows = held.follows;
-      text_is = rw (un, front) at held.text_is;
+      text_is = rw (un, during, last) at held.text_is;
       printed_is = held.printed_is;
       punched_is = held.punched_is;
       status_is = rw un at held.status_is;
@@ -186,8 +188,8 @@ held_without_stops comes options stops form image text printed punched status no
 
 pub sessions_without_stops : SessionsWithoutStops
 sessions_without_stops options stops form plan image text printed punched status none held =
-    held_without_stops (comes_by plan) options stops form image text printed punched status none held
+    held_without_stops (brought_by plan) options stops form image text printed punched status none held
 
 pub typed_without_stops : TypedWithoutStops
 typed_without_stops options stops form frames bytes image text printed punched status none held =
-    held_without_stops (types_by options frames bytes) (run_of options) stops form image text printed punched status none held
+    held_without_stops (typed_by options frames bytes) (run_of options) stops form image text printed punched status none held

@@ -1,26 +1,23 @@
 -- Frames and keys that are read while a session goes on.
 use Rattle.std.proofs.Common.{inl, inr, ℕ, zero, suc, ◌≡◌, ◌==◌, ◌<◌, ◌≤◌, Bool, true, false, ◌||◌, List, [], ◌∷◌, drop, take, map, refl, sym, ◌∙◌, ap, arith, Some, None, Option, Ok, Err, Result, subst, true≢false}
 use Rattle.std.proofs.lemmas.Bool.Decides.{eqb_tells}
-use Rattle.std.specs.Prelude.{◌&&◌, not, is_some, IfOk, IsTrue, OnErr, OnOk, length, slice_index}
+use Rattle.std.specs.Prelude.{◌&&◌, not, is_some, IfOk, length, slice_index}
 use Rattle.std.specs.Io.KnownBytes.{Consumes, IsAtEnd}
-use Rattle.instruct.specs.declared.Profile.{Profile}
 use Rattle.instruct.specs.declared.Profile.TheVariants.{Pdp8I}
 use Rattle.peripherals.specs.declared.Event.{Event}
 use Rattle.peripherals.specs.declared.Event.TheVariants.{Step, Key, PrinterDone, ReaderDone, PunchDone, Switches, Continue}
 use Rattle.instruct.specs.Devices.{device_operation, word_of}
 use Rattle.instruct.specs.declared.devices.DeviceOperation.TheVariants.{SkipOnKeyboardFlag}
 use Rattle.peripherals.specs.Devices.{WorldState, word_at_pc}
-use Rattle.peripherals.specs.Events.{Happens, completed, done, with_devices}
 use Rattle.peripherals.specs.Operator.{Plan, first_due, left_after, round_due}
-use Rattle.peripherals.specs.EventOutcomes.{puts_out, seen_of}
 use Rattle.command_parts.specs.declared.options.TeletypeOptions.{TeletypeOptions}
-use Rattle.machine_commands.specs.Follows.{goes_on}
-use Rattle.machine_commands.specs.Schedule.{Comes, Over, Final, Then, Extent, ToStep, Due}
+use Rattle.machine_commands.specs.Follows.{Conduct, goes_on, happens_by, seen_by}
+use Rattle.machine_commands.specs.Schedule.{ComesBy, Over, Final, Then, Extent, ToStep, Due}
 use Rattle.machine_commands.specs.SessionParts.{rank}
 use Rattle.machine_commands.specs.Teletype.{AreAll}
 use Rattle.machine_commands.specs.Typing.{answer_due, asked_after, asks, read_due, typed_as, typed_due, typing}
 use Rattle.machine_commands.specs.TypingParts.{Answered, Brought, IsLeft, Source, Types, bytes_left, frames_left, rounds_left, typed_plan}
-use Rattle.machine_commands.proofs.SessionLemmas.{Less, device_goes, first_less, none_is, or_true, other_less, printer_done, round_less}
+use Rattle.machine_commands.proofs.SessionLemmas.{Less, first_less, none_is, or_true, other_less, round_less}
 
 -- On a PDP-8/I the word of KSF does what KSF does.
 ksf_skips : (word : ℕ) → word ≡ word_of SkipOnKeyboardFlag → device_operation Pdp8I word ≡ Some SkipOnKeyboardFlag
@@ -267,32 +264,32 @@ first_failed false b c no_b no_c one =
     absurd (true≢false (sym some ∙ none))
 
 -- the event that is due comes, and the others after it
-types_then : (options : TeletypeOptions) (w m : WorldState) (asked : Bool) (rounds : ℕ) (last : Option Event) (reader keys : Source) (e : Event) (p : Profile) (extent : Extent) (es : List Event) (frames bytes : List ℕ) →
-    Brought options w asked rounds last reader keys (Some e) frames bytes → goes_on true (seen_of p w e) ≡ true → Happens p w e m →
-    Comes typing p extent (record { plan = typed_plan options (rounds_left e rounds) frames bytes; last = Some e; asked = asked_after asked w e }) m es → Types options asked rounds last reader keys p w extent (e ∷ es)
-types_then options w m asked rounds last reader keys e p extent es frames bytes b goes happens come =
-    let from : Comes typing p extent (record { plan = typed_plan options (rounds_left e rounds) (frames_left (Some e) b.frames) (bytes_left (Some e) b.bytes); last = Some e; asked = asked_after asked w e }) m es = rw (b.frames_rest, b.bytes_rest) at come in
+types_then : (options : TeletypeOptions) (w m : WorldState) (asked : Bool) (rounds : ℕ) (last : Option Event) (reader keys : Source) (e : Event) (c : Conduct) (extent : Extent) (es : List Event) (frames bytes : List ℕ) →
+    Brought options w asked rounds last reader keys (Some e) frames bytes → goes_on true (seen_by c w e) ≡ true → happens_by c w e m →
+    ComesBy typing true c extent (record { plan = typed_plan options (rounds_left e rounds) frames bytes; last = Some e; asked = asked_after asked w e }) m es → Types options asked rounds last reader keys c w extent (e ∷ es)
+types_then options w m asked rounds last reader keys e c extent es frames bytes b goes happens come =
+    let from : ComesBy typing true c extent (record { plan = typed_plan options (rounds_left e rounds) (frames_left (Some e) b.frames) (bytes_left (Some e) b.bytes); last = Some e; asked = asked_after asked w e }) m es = rw (b.frames_rest, b.bytes_rest) at come in
     record {
       frames = b.frames;
       bytes = b.bytes;
       frames_are = b.frames_are;
       bytes_are = b.bytes_are;
       come = Then (record { plan = typed_plan options rounds b.frames b.bytes; last = last; asked = asked }) w m e es b.is_due goes happens
-          (subst (λ (plan : Plan). Comes typing p extent (record { plan = plan; last = Some e; asked = asked_after asked w e }) m es) (sym (plan_left options rounds b.frames b.bytes e)) from);
+          (subst (λ (plan : Plan). ComesBy typing true c extent (record { plan = plan; last = Some e; asked = asked_after asked w e }) m es) (sym (plan_left options rounds b.frames b.bytes e)) from);
     }
 
-pub types_on : (options : TeletypeOptions) (w m : WorldState) (asked : Bool) (rounds : ℕ) (last : Option Event) (reader keys reader_after keys_after : Source) (e : Event) (p : Profile) (extent : Extent) (es : List Event) →
-    IsBrought options w asked rounds last reader keys (Some e) reader_after keys_after → goes_on true (seen_of p w e) ≡ true → Happens p w e m →
-    Types options (asked_after asked w e) (rounds_left e rounds) (Some e) reader_after keys_after p m extent es → Types options asked rounds last reader keys p w extent (e ∷ es)
-types_on options w m asked rounds last reader keys reader_after keys_after e p extent es brought goes happens later =
-    types_then options w m asked rounds last reader keys e p extent es later.frames later.bytes (brought later.frames later.bytes later.frames_are later.bytes_are) goes happens later.come
+pub types_on : (options : TeletypeOptions) (w m : WorldState) (asked : Bool) (rounds : ℕ) (last : Option Event) (reader keys reader_after keys_after : Source) (e : Event) (c : Conduct) (extent : Extent) (es : List Event) →
+    IsBrought options w asked rounds last reader keys (Some e) reader_after keys_after → goes_on true (seen_by c w e) ≡ true → happens_by c w e m →
+    Types options (asked_after asked w e) (rounds_left e rounds) (Some e) reader_after keys_after c m extent es → Types options asked rounds last reader keys c w extent (e ∷ es)
+types_on options w m asked rounds last reader keys reader_after keys_after e c extent es brought goes happens later =
+    types_then options w m asked rounds last reader keys e c extent es later.frames later.bytes (brought later.frames later.bytes later.frames_are later.bytes_are) goes happens later.come
 
 -- what comes by whatever frames and bytes were before what is due
-types_from : (options : TeletypeOptions) (w : WorldState) (asked : Bool) (rounds : ℕ) (last : Option Event) (reader keys reader_after keys_after : Source) (due : Option Event) (p : Profile) (extent : Extent) (es : List Event) →
+types_from : (options : TeletypeOptions) (w : WorldState) (asked : Bool) (rounds : ℕ) (last : Option Event) (reader keys reader_after keys_after : Source) (due : Option Event) (c : Conduct) (extent : Extent) (es : List Event) →
     IsBrought options w asked rounds last reader keys due reader_after keys_after →
-    ((frames bytes : List ℕ) → typed_due (typed_plan options rounds frames bytes) w asked last ≡ due → Comes typing p extent (record { plan = typed_plan options rounds frames bytes; last = last; asked = asked }) w es) →
-    Types options asked rounds last reader keys p w extent es
-types_from options w asked rounds last reader keys reader_after keys_after due p extent es brought come =
+    ((frames bytes : List ℕ) → typed_due (typed_plan options rounds frames bytes) w asked last ≡ due → ComesBy typing true c extent (record { plan = typed_plan options rounds frames bytes; last = last; asked = asked }) w es) →
+    Types options asked rounds last reader keys c w extent es
+types_from options w asked rounds last reader keys reader_after keys_after due c extent es brought come =
     let frames = some_left reader_after.told reader_after.ended in
     let bytes = some_left keys_after.told keys_after.ended in
     let b = brought frames.0 bytes.0 frames.1 bytes.1 in
@@ -304,50 +301,25 @@ types_from options w asked rounds last reader keys reader_after keys_after due p
       come = come b.frames b.bytes b.is_due;
     }
 
-pub types_last : (options : TeletypeOptions) (w : WorldState) (asked : Bool) (rounds : ℕ) (last : Option Event) (reader keys reader_after keys_after : Source) (e : Event) (p : Profile) (extent : Extent) →
-    IsBrought options w asked rounds last reader keys (Some e) reader_after keys_after → goes_on true (seen_of p w e) ≡ false → Types options asked rounds last reader keys p w extent (e ∷ [])
-types_last options w asked rounds last reader keys reader_after keys_after e p extent brought ends =
-    types_from options w asked rounds last reader keys reader_after keys_after (Some e) p extent (e ∷ []) brought
+pub types_last : (options : TeletypeOptions) (w : WorldState) (asked : Bool) (rounds : ℕ) (last : Option Event) (reader keys reader_after keys_after : Source) (e : Event) (c : Conduct) (extent : Extent) →
+    IsBrought options w asked rounds last reader keys (Some e) reader_after keys_after → goes_on true (seen_by c w e) ≡ false → Types options asked rounds last reader keys c w extent (e ∷ [])
+types_last options w asked rounds last reader keys reader_after keys_after e c extent brought ends =
+    types_from options w asked rounds last reader keys reader_after keys_after (Some e) c extent (e ∷ []) brought
     (λ frames bytes is. Final (record { plan = typed_plan options rounds frames bytes; last = last; asked = asked }) w e is ends)
 
 -- the event that is due is a step
-pub types_step : (options : TeletypeOptions) (w : WorldState) (asked : Bool) (rounds : ℕ) (last : Option Event) (reader keys reader_after keys_after : Source) (e : Event) (p : Profile) →
-    IsBrought options w asked rounds last reader keys (Some e) reader_after keys_after → e ≡ Step → Types options asked rounds last reader keys p w ToStep (Step ∷ [])
-types_step options w asked rounds last reader keys reader_after keys_after e p brought steps =
-    types_from options w asked rounds last reader keys reader_after keys_after (Some e) p ToStep (Step ∷ []) brought
+pub types_step : (options : TeletypeOptions) (w : WorldState) (asked : Bool) (rounds : ℕ) (last : Option Event) (reader keys reader_after keys_after : Source) (e : Event) (c : Conduct) →
+    IsBrought options w asked rounds last reader keys (Some e) reader_after keys_after → e ≡ Step → Types options asked rounds last reader keys c w ToStep (Step ∷ [])
+types_step options w asked rounds last reader keys reader_after keys_after e c brought steps =
+    types_from options w asked rounds last reader keys reader_after keys_after (Some e) c ToStep (Step ∷ []) brought
     (λ frames bytes is. Due (record { plan = typed_plan options rounds frames bytes; last = last; asked = asked }) w (rw steps at is) tt)
 
 -- nothing is due
-pub types_over : (options : TeletypeOptions) (w : WorldState) (asked : Bool) (rounds : ℕ) (last : Option Event) (reader keys reader_after keys_after : Source) (p : Profile) (extent : Extent) →
-    IsBrought options w asked rounds last reader keys None reader_after keys_after → Types options asked rounds last reader keys p w extent []
-types_over options w asked rounds last reader keys reader_after keys_after p extent brought =
-    types_from options w asked rounds last reader keys reader_after keys_after None p extent [] brought
+pub types_over : (options : TeletypeOptions) (w : WorldState) (asked : Bool) (rounds : ℕ) (last : Option Event) (reader keys reader_after keys_after : Source) (c : Conduct) (extent : Extent) →
+    IsBrought options w asked rounds last reader keys None reader_after keys_after → Types options asked rounds last reader keys c w extent []
+types_over options w asked rounds last reader keys reader_after keys_after c extent brought =
+    types_from options w asked rounds last reader keys reader_after keys_after None c extent [] brought
     (λ frames bytes is. Over (record { plan = typed_plan options rounds frames bytes; last = last; asked = asked }) w is)
-
--- after an instruction the two completions come
-pub types_complete : (options : TeletypeOptions) (w : WorldState) (asked : Bool) (rounds : ℕ) (reader keys : Source) (p : Profile) (extent : Extent) (es : List Event) →
-    Types options asked rounds (Some PunchDone) reader keys p (completed w) extent es → Types options asked rounds (Some Step) reader keys p w extent (PrinterDone ∷ PunchDone ∷ es)
-types_complete options w asked rounds reader keys p extent es later =
-    let mid = printer_done w in
-    let plan = typed_plan options rounds later.frames later.bytes in
-    let half : Comes typing p extent (record { plan = plan; last = Some PrinterDone; asked = asked }) mid (PunchDone ∷ es) =
-    Then (record { plan = plan; last = Some PrinterDone; asked = asked }) mid (completed w) PunchDone es refl (device_goes mid.devices.punch.busy) refl later.come in
-    record {
-      frames = later.frames;
-      bytes = later.bytes;
-      frames_are = later.frames_are;
-      bytes_are = later.bytes_are;
-      come = Then (record { plan = plan; last = Some Step; asked = asked }) w mid PrinterDone (PunchDone ∷ es) refl (device_goes w.devices.printer.busy) refl half;
-    }
-
--- an event that puts nothing out happens whatever memory there is
-pub happens_anyway : {T E : Type 0} (p : Profile) (w x : WorldState) (e : Event) (r : Result T E) → OnOk r (Happens p w e x) → OnErr r (IsTrue (puts_out w e)) → puts_out w e ≡ false → Happens p w e x
-happens_anyway p w x e (Ok v) happens only none = happens
-happens_anyway p w x e (Err f) happens only none = let yes : puts_out w e ≡ true = only in absurd (true≢false (sym yes ∙ none))
-
--- the printer and the punch got done
-pub both_done : (p q : Profile) (w m x : WorldState) → Happens p w PrinterDone m → Happens q m PunchDone x → x ≡ completed w
-both_done p q w m x printer punch = let first : m ≡ printer_done w = printer in let second : x ≡ with_devices m (record m.devices { punch = done m.devices.punch }) = punch in rw first at second
 
 answer_less : (asked : Bool) (keys : List ℕ) (rounds : ℕ) (last : Option Event) (e : Event) → 0 < rank last → answer_due asked keys rounds ≡ Some e → Less rounds last e
 answer_less false keys rounds last e some due = round_less rounds last e due

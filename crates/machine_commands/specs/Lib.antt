@@ -12,14 +12,12 @@ pub mod RefuteText
 pub mod Session
 pub mod SessionParts
 pub mod Continued
-pub mod ContinuedParts
 pub mod Schedule
 pub mod Typing
 pub mod TypingParts
 pub mod Teletype
 pub mod Interrupted
 pub mod StoppedSession
-pub mod StoppedParts
-pub mod DeclaredRun
 pub mod StoppedWatch
-pub mod LongTrace
+pub mod WatchedRun
+pub mod Driving

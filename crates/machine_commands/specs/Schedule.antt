@@ -1,19 +1,22 @@
 -- Which events come in a run: each is due where it comes, by a schedule.
-use Rattle.std.specs.Prelude.{◌≡◌, true, false, Option, Some, None, List, [], ◌∷◌}
+use Rattle.std.specs.Prelude.{◌≡◌, Bool, true, false, Option, Some, None, List, [], ◌∷◌, drop}
 use Rattle.instruct.specs.declared.Profile.{Profile}
 use Rattle.peripherals.specs.declared.Event.{Event}
 use Rattle.peripherals.specs.declared.Event.TheVariants.{Step}
 use Rattle.peripherals.specs.Devices.{WorldState}
-use Rattle.peripherals.specs.Events.{Happens}
 use Rattle.peripherals.specs.Operator.{Plan, due, left_after}
-use Rattle.peripherals.specs.EventOutcomes.{seen_of}
-use Rattle.machine_commands.specs.Follows.{goes_on}
+use Rattle.machine_commands.specs.Follows.{Conduct, goes_on, happens_by, seen_by, Usual}
 
 -- A schedule has states. In each it says which event is due in a world, or none if the run is over; and which state comes after an
 -- event in a world.
 pub record Schedule (S : Type 0) : Type 0 where
   pub due : S → WorldState → Option Event
   pub after : S → WorldState → Event → S
+
+-- The first of some events, if there is one.
+abbrev pub first_of : List Event → Option Event
+first_of [] = None
+first_of (e ∷ es) = Some e
 
 -- How much of a run is told: all that comes; or what comes up to a step, and that step, which need not happen. If the run ends earlier, all
 -- of it is told.
@@ -26,20 +29,28 @@ abbrev pub EndsWithStep : Extent → Type 0
 EndsWithStep Whole = ⊥
 EndsWithStep ToStep = Unit {0}
 
--- From a state of a schedule and a world these events come: each is due where it comes. They are all that come in the run, or,
--- where it is told up to a step, the first of them.
-pub data Comes {S : Type 0} (schedule : Schedule S) (profile : Profile) (extent : Extent) : S → WorldState → List Event → Type 0 where
+-- From a state of a schedule and a world these events come: each is due where it comes. They are all that come in the run, which ends
+-- at a halt or does not, or, where it is told up to a step, the first of them.
+pub data ComesBy {S : Type 0} (schedule : Schedule S) (ends_at_halt : Bool) (c : Conduct) (extent : Extent) : S → WorldState → List Event → Type 0 where
   -- nothing is due any more
-  Over : (s : S) (w : WorldState) → schedule.due s w ≡ None → Comes schedule profile extent s w []
+  Over : (s : S) (w : WorldState) → schedule.due s w ≡ None → ComesBy schedule ends_at_halt c extent s w []
   -- a step is due, and it is the last event that is told
-  Due : (s : S) (w : WorldState) → schedule.due s w ≡ Some Step → EndsWithStep extent → Comes schedule profile extent s w (Step ∷ [])
+  Due : (s : S) (w : WorldState) → schedule.due s w ≡ Some Step → EndsWithStep extent → ComesBy schedule ends_at_halt c extent s w (Step ∷ [])
   -- the run ends with the event that is due: it is stuck, or the machine halts
   Final : (s : S) (w : WorldState) (e : Event) →
-      schedule.due s w ≡ Some e → goes_on true (seen_of profile w e) ≡ false → Comes schedule profile extent s w (e ∷ [])
+      schedule.due s w ≡ Some e → goes_on ends_at_halt (seen_by c w e) ≡ false → ComesBy schedule ends_at_halt c extent s w (e ∷ [])
   -- the event that is due happens, and the others come after it
   Then : (s : S) (w m : WorldState) (e : Event) (es : List Event) →
-      schedule.due s w ≡ Some e → goes_on true (seen_of profile w e) ≡ true → Happens profile w e m →
-      Comes schedule profile extent (schedule.after s w e) m es → Comes schedule profile extent s w (e ∷ es)
+      schedule.due s w ≡ Some e → goes_on ends_at_halt (seen_by c w e) ≡ true → happens_by c w e m →
+      ComesBy schedule ends_at_halt c extent (schedule.after s w e) m es → ComesBy schedule ends_at_halt c extent s w (e ∷ es)
+
+-- The same of a run that ends at a halt, of a machine that no declaration concerns.
+abbrev pub Comes : {S : Type 0} → Schedule S → Profile → Extent → S → WorldState → List Event → Type 0
+Comes schedule profile extent s w events = ComesBy schedule true (Usual profile) extent s w events
+
+-- A list brings its events in order.
+abbrev pub listing : Schedule (List Event)
+listing = record { due = λ es w. first_of es; after = λ es w e. drop 1 es }
 
 -- Where an operator is: what is still to come, and the last event if there was one.
 pub record Place : Type 0 where

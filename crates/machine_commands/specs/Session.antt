@@ -15,9 +15,9 @@ use Rattle.command_parts.specs.declared.status.Fault.TheVariants.{Device}
 use Rattle.command_parts.specs.declared.status.DeviceFault.TheVariants.{Read}
 use Rattle.command_parts.specs.declared.status.Status.{Status}
 use Rattle.command_parts.specs.Faults.{IsRunFault}
-use Rattle.machine_commands.specs.Follows.{Follows}
+use Rattle.machine_commands.specs.Follows.{Conduct, Follows, Usual}
 use Rattle.machine_commands.specs.Running.{fresh, status_of}
-use Rattle.machine_commands.specs.Schedule.{Comes, Extent, Whole, first_place, operating}
+use Rattle.machine_commands.specs.Schedule.{ComesBy, Extent, Whole, first_place, operating}
 use Rattle.machine_commands.specs.Summary.{closing_as}
 use Rattle.machine_commands.specs.Trace.{traced}
 
@@ -44,6 +44,10 @@ IsHeldFault fault = IsRunFault fault
 abbrev pub parting : Bool → List ℕ → List ℕ
 parting apart printed = if apart && leaves_open printed then 10 ∷ [] else []
 
+-- The lines of the last instructions, the summary and the cells to be shown, behind the end of an open line where that is wanted.
+abbrev pub closing_behind : List ℕ → (ℕ → Bool) → SummaryForm → End → WorldState → ℕ → List ℕ
+closing_behind last named form end w steps = parting form.apart (printed_in w) ++ (last ++ closing_as form named end w steps)
+
 -- The summary and the cells to be shown, behind the end of an open line where that is wanted.
 abbrev pub summary_where : (ℕ → Bool) → SummaryForm → End → WorldState → ℕ → List ℕ
 summary_where named form end w steps = parting form.apart (printed_in w) ++ closing_as form named end w steps
@@ -63,9 +67,13 @@ pub record IsHeld (comes : Profile → WorldState → Extent → List Event → 
   pub punched_is : punched ≡ final.devices.punch.output
   pub status_is : status ≡ status_of end
 
--- With an operator these events come, each where it is due by the plan.
+-- With an operator these events come, each where it is due by the plan, by what events do.
+abbrev pub brought_by : Plan → Conduct → WorldState → Extent → List Event → Type 0
+brought_by plan c w extent events = ComesBy operating true c extent (first_place plan) w events
+
+-- The same of a machine that no declaration concerns.
 abbrev pub comes_by : Plan → Profile → WorldState → Extent → List Event → Type 0
-comes_by plan profile w extent events = Comes operating profile extent (first_place plan) w events
+comes_by plan profile w extent events = brought_by plan (Usual profile) w extent events
 
 -- From an image the events of this plan lead to an end, with this text, these characters and bytes, and this status.
 abbrev pub IsSessionOf : RunOptions → SummaryForm → Plan → List (Option ℕ) → List ℕ → List ℕ → List ℕ → Status → Type 0

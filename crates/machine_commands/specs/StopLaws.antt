@@ -12,11 +12,12 @@ use Rattle.peripherals.specs.declared.Event.{Event}
 use Rattle.peripherals.specs.Devices.{WorldState}
 use Rattle.peripherals.specs.Operator.{Plan}
 use Rattle.machine_commands.specs.declared.follow.End.{End}
-use Rattle.machine_commands.specs.Follows.{Follows}
-use Rattle.machine_commands.specs.Session.{IsHeld, IsSessionOf, comes_by}
+use Rattle.machine_commands.specs.Follows.{Follows, Usual}
+use Rattle.machine_commands.specs.Last.{no_last}
+use Rattle.machine_commands.specs.Session.{IsHeld, IsSessionOf, brought_by}
 use Rattle.machine_commands.specs.StoppedSession.{IsHeldToStop}
 use Rattle.machine_commands.specs.Stops.{NeverStops, StopsAfter}
-use Rattle.machine_commands.specs.Teletype.{run_of, types_by}
+use Rattle.machine_commands.specs.Teletype.{run_of, typed_by, types_by}
 
 -- A run with this trace and so many instructions goes on from a world, by these events, to the end of another run: the other's trace
 -- is this trace and what follows, and its instructions are those of this run and those that follow.
@@ -32,7 +33,7 @@ pub record GoesOnTo (profile : Profile) (ends_at_halt : Bool) (rest : List Event
 abbrev pub StoppedRunsAreFronts : Type 0
 StoppedRunsAreFronts =
     (stops : Stops) (profile : Profile) (ends_at_halt : Bool) (events : List Event) (w x final : WorldState) (count steps all : ℕ) (lines whole : List ℕ) (end last : End) →
-    StopsAfter stops profile ends_at_halt 0 events w count → Follows profile ends_at_halt (take count events) w lines steps end x →
+    StopsAfter stops (Usual profile) ends_at_halt 0 events w count → Follows profile ends_at_halt (take count events) w lines steps end x →
     Follows profile ends_at_halt events w whole all last final →
     GoesOnTo profile ends_at_halt (drop count events) x lines whole steps all last final
 
@@ -40,13 +41,13 @@ StoppedRunsAreFronts =
 abbrev pub StopsAreOne : Type 0
 StopsAreOne =
     (stops : Stops) (profile : Profile) (ends_at_halt : Bool) (events : List Event) (w : WorldState) (count other : ℕ) →
-    StopsAfter stops profile ends_at_halt 0 events w count → StopsAfter stops profile ends_at_halt 0 events w other → count ≡ other
+    StopsAfter stops (Usual profile) ends_at_halt 0 events w count → StopsAfter stops (Usual profile) ends_at_halt 0 events w other → count ≡ other
 
 -- A run that is stopped is not one that is never stopped.
 abbrev pub StoppedIsNotNever : Type 0
 StoppedIsNotNever =
     (stops : Stops) (profile : Profile) (ends_at_halt : Bool) (events : List Event) (w : WorldState) (count : ℕ) →
-    StopsAfter stops profile ends_at_halt 0 events w count → NeverStops stops profile ends_at_halt 0 events w → ⊥
+    StopsAfter stops (Usual profile) ends_at_halt 0 events w count → NeverStops stops (Usual profile) ends_at_halt 0 events w → ⊥
 
 -- There is no address at which these stop a run, and no cell.
 pub record AreNone (stops : Stops) : Type 0 where
@@ -59,7 +60,7 @@ abbrev pub SessionsWithoutStops : Type 0
 SessionsWithoutStops =
     (options : RunOptions) (stops : Stops) (form : SummaryForm) (plan : Plan) (image : List (Option ℕ))
     (text printed punched : List ℕ) (status : Status) →
-    AreNone stops → IsHeldToStop (comes_by plan) options stops None form false image text printed punched status →
+    AreNone stops → IsHeldToStop (brought_by plan) true options stops no_last form false image text printed punched status →
     IsSessionOf options form plan image text printed punched status
 
 -- The same of a session at the teletype that no key interrupts.
@@ -67,5 +68,5 @@ abbrev pub TypedWithoutStops : Type 0
 TypedWithoutStops =
     (options : TeletypeOptions) (stops : Stops) (form : SummaryForm) (frames bytes : List ℕ) (image : List (Option ℕ))
     (text printed punched : List ℕ) (status : Status) →
-    AreNone stops → IsHeldToStop (types_by options frames bytes) (run_of options) stops None form false image text printed punched status →
+    AreNone stops → IsHeldToStop (typed_by options frames bytes) true (run_of options) stops no_last form false image text printed punched status →
     IsHeld (types_by options frames bytes) (run_of options) form image text printed punched status

@@ -13,10 +13,8 @@ use Rattle.processor.specs.declared.fetch.DecodedInstruction.TheVariants.{Refers
 use Rattle.peripherals.specs.declared.Event.{Event}
 use Rattle.peripherals.specs.declared.Event.TheVariants.{Step}
 use Rattle.peripherals.specs.Devices.{WorldState}
-use Rattle.peripherals.specs.Events.{Happens}
-use Rattle.peripherals.specs.EventOutcomes.{seen_of}
 use Rattle.command_parts.specs.declared.options.Stops.{Stops}
-use Rattle.machine_commands.specs.Follows.{goes_on}
+use Rattle.machine_commands.specs.Follows.{Conduct, goes_on, happens_by, profile_in, seen_by}
 
 -- ISZ and DCA store in the cell at the effective address, and JMS stores its return address there.
 abbrev pub stores_there : Operation → Bool
@@ -69,30 +67,25 @@ visits_with stops visits w _ = visits
 
 -- From w, where so many steps before came to the address, the run of these events is stopped before one of them, the first that
 -- stops it. So many events come before that one.
-pub data StopsAfter (stops : Stops) (profile : Profile) (ends_at_halt : Bool) : ℕ → List Event → WorldState → ℕ → Type 0 where
+pub data StopsAfter (stops : Stops) (c : Conduct) (ends_at_halt : Bool) : ℕ → List Event → WorldState → ℕ → Type 0 where
   -- the first event stops it
-  Here : (visits : ℕ) (e : Event) (es : List Event) (w : WorldState) → stops_before stops profile visits w e ≡ true →
-      StopsAfter stops profile ends_at_halt visits (e ∷ es) w zero
+  Here : (visits : ℕ) (e : Event) (es : List Event) (w : WorldState) → stops_before stops (profile_in c) visits w e ≡ true →
+      StopsAfter stops c ends_at_halt visits (e ∷ es) w zero
   -- the first event does not stop it, happens, and does not end the run
-  Later : (visits count : ℕ) (e : Event) (es : List Event) (w m : WorldState) → stops_before stops profile visits w e ≡ false →
-      goes_on ends_at_halt (seen_of profile w e) ≡ true → Happens profile w e m →
-      StopsAfter stops profile ends_at_halt (visits_with stops visits w e) es m count →
-      StopsAfter stops profile ends_at_halt visits (e ∷ es) w (suc count)
+  Later : (visits count : ℕ) (e : Event) (es : List Event) (w m : WorldState) → stops_before stops (profile_in c) visits w e ≡ false →
+      goes_on ends_at_halt (seen_by c w e) ≡ true → happens_by c w e m →
+      StopsAfter stops c ends_at_halt (visits_with stops visits w e) es m count →
+      StopsAfter stops c ends_at_halt visits (e ∷ es) w (suc count)
 
 -- From w, where so many steps before came to the address, no event stops the run of these events before its end.
-pub data NeverStops (stops : Stops) (profile : Profile) (ends_at_halt : Bool) : ℕ → List Event → WorldState → Type 0 where
+pub data NeverStops (stops : Stops) (c : Conduct) (ends_at_halt : Bool) : ℕ → List Event → WorldState → Type 0 where
   -- there is no event left
-  Over : (visits : ℕ) (w : WorldState) → NeverStops stops profile ends_at_halt visits [] w
+  Over : (visits : ℕ) (w : WorldState) → NeverStops stops c ends_at_halt visits [] w
   -- the run ends with the first event, which does not stop it
-  Ends : (visits : ℕ) (e : Event) (es : List Event) (w : WorldState) → stops_before stops profile visits w e ≡ false →
-      goes_on ends_at_halt (seen_of profile w e) ≡ false → NeverStops stops profile ends_at_halt visits (e ∷ es) w
+  Ends : (visits : ℕ) (e : Event) (es : List Event) (w : WorldState) → stops_before stops (profile_in c) visits w e ≡ false →
+      goes_on ends_at_halt (seen_by c w e) ≡ false → NeverStops stops c ends_at_halt visits (e ∷ es) w
   -- the first event does not stop it, happens, and does not end the run
-  Continues : (visits : ℕ) (e : Event) (es : List Event) (w m : WorldState) → stops_before stops profile visits w e ≡ false →
-      goes_on ends_at_halt (seen_of profile w e) ≡ true → Happens profile w e m →
-      NeverStops stops profile ends_at_halt (visits_with stops visits w e) es m →
-      NeverStops stops profile ends_at_halt visits (e ∷ es) w
-
--- Where the run of these events from w is stopped: after so many of them, or never.
-abbrev pub IsStop : Stops → Profile → Bool → List Event → WorldState → Option ℕ → Type 0
-IsStop stops profile ends_at_halt events w (Some count) = StopsAfter stops profile ends_at_halt 0 events w count
-IsStop stops profile ends_at_halt events w None = NeverStops stops profile ends_at_halt 0 events w
+  Continues : (visits : ℕ) (e : Event) (es : List Event) (w m : WorldState) → stops_before stops (profile_in c) visits w e ≡ false →
+      goes_on ends_at_halt (seen_by c w e) ≡ true → happens_by c w e m →
+      NeverStops stops c ends_at_halt (visits_with stops visits w e) es m →
+      NeverStops stops c ends_at_halt visits (e ∷ es) w

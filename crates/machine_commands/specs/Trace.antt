@@ -39,9 +39,13 @@ is_traced _ = false
 abbrev pub line_of : Profile → Seen → ℕ → ℕ → State → List ℕ
 line_of profile what at word s = if is_traced what then trace_line profile at word s else []
 
+-- What an event that leads from w to x, of which this is seen, adds to the trace.
+abbrev pub trace_seen : Profile → Seen → WorldState → WorldState → List ℕ
+trace_seen profile what w x = line_of profile what w.state.pc (word_at_pc w) x.state
+
 -- What an event that leads from w to x adds to the trace.
 abbrev pub trace_of : Profile → WorldState → Event → WorldState → List ℕ
-trace_of profile w e x = line_of profile (seen_of profile w e) w.state.pc (word_at_pc w) x.state
+trace_of profile w e x = trace_seen profile (seen_of profile w e) w x
 
 -- These lines, where a trace is requested.
 abbrev pub traced : Bool → List ℕ → List ℕ

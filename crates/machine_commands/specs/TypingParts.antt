@@ -1,12 +1,12 @@
 -- How frames and keys are read while a session goes on. Private contracts alone cite this.
 use Rattle.std.specs.Prelude.{ℕ, ◌≡◌, Bool, true, Option, Some, None, List, [], drop, map}
-use Rattle.instruct.specs.declared.Profile.{Profile}
 use Rattle.peripherals.specs.declared.Event.{Event}
 use Rattle.peripherals.specs.declared.Event.TheVariants.{Step, Key, ReaderDone}
 use Rattle.peripherals.specs.Devices.{WorldState}
 use Rattle.peripherals.specs.Operator.{Plan, one_less}
 use Rattle.command_parts.specs.declared.options.TeletypeOptions.{TeletypeOptions}
-use Rattle.machine_commands.specs.Schedule.{Comes, Extent}
+use Rattle.machine_commands.specs.Follows.{Conduct}
+use Rattle.machine_commands.specs.Schedule.{ComesBy, Extent}
 use Rattle.machine_commands.specs.Typing.{answer_due, typed_as, typed_due, typing}
 
 -- These bytes are still to come of a source: all that it tells; where it tells none they may be any, but none once its end was
@@ -66,9 +66,9 @@ pub record Brought (options : TeletypeOptions) (w : WorldState) (asked : Bool) (
   pub bytes_rest : bytes_after ≡ bytes_left due bytes
 
 -- These events come in a session, to some extent, by what its sources still have.
-pub record Types (options : TeletypeOptions) (asked : Bool) (rounds : ℕ) (last : Option Event) (reader keys : Source) (profile : Profile) (w : WorldState) (extent : Extent) (events : List Event) : Type 0 where
+pub record Types (options : TeletypeOptions) (asked : Bool) (rounds : ℕ) (last : Option Event) (reader keys : Source) (c : Conduct) (w : WorldState) (extent : Extent) (events : List Event) : Type 0 where
   pub frames : List ℕ
   pub bytes : List ℕ
   pub frames_are : IsLeft reader.told reader.ended frames
   pub bytes_are : IsLeft keys.told keys.ended bytes
-  pub come : Comes typing profile extent (record { plan = typed_plan options rounds frames bytes; last = last; asked = asked }) w events
+  pub come : ComesBy typing true c extent (record { plan = typed_plan options rounds frames bytes; last = last; asked = asked }) w events

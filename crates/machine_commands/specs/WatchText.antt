@@ -1,6 +1,5 @@
 -- What `watch` writes.
-use Rattle.std.specs.Prelude.{ℕ, ◌≡◌, ◌++◌, Bool, true, false, take, codes, decimal, List, [], Option}
-use Rattle.wordset.specs.Words.{has_some}
+use Rattle.std.specs.Prelude.{ℕ, ◌≡◌, ◌++◌, Bool, false, take, codes, decimal, List, [], Option}
 use Rattle.peripherals.specs.declared.Event.{Event}
 use Rattle.peripherals.specs.Devices.{WorldState}
 use Rattle.peripherals.specs.Loading.{image_of}
@@ -40,15 +39,14 @@ abbrev pub happening : Watched → List Event → List Event
 happening Clean events = events
 happening (Broken n r) events = take n events
 
--- These events lead the declared run, in which a CONTINUE counts at a pause alone, from the declared start to a world, and these
--- are the lines of the named cells, each with its word in that world.
-pub record CellsAfter (named : ℕ → Bool) (image : List (Option ℕ)) (d : Declaration) (events : List Event) (shown : List ℕ) : Type 0 where
+-- The text is what `watch` writes of the declared run of these events: what is seen of it; below that, only if it is requested, what explains
+-- it; and the cells that are named, each with its word in the world to which the events lead that happen.
+pub record IsWatchText (explained : Bool) (named : ℕ → Bool) (image : List (Option ℕ)) (d : Declaration) (events : List Event) (status : Status) (text : List ℕ) : Type 0 where
+  pub watched : Watched
+  pub sees : IsSeen image d events watched
   pub final : WorldState
-  pub leads : LeadsTo d events (fresh image d.start) final
-  pub shown_is : shown ≡ cells_text named final
-
--- What is shown of the cells when a watched run is over: each that is named, with its word after the events that happen; and
--- nothing if none is named.
-pub record IsShown (named : ℕ → Bool) (image : List (Option ℕ)) (d : Declaration) (events : List Event) (watched : Watched) (shown : List ℕ) : Type 0 where
-  pub none : has_some named ≡ false → shown ≡ []
-  pub some : has_some named ≡ true → CellsAfter named image d (happening watched events) shown
+  pub leads : LeadsTo d (happening watched events) (fresh image d.start) final
+  pub why : List ℕ
+  pub unexplained : explained ≡ false → why ≡ []
+  pub text_is : text ≡ watched_text watched ++ (why ++ cells_text named final)
+  pub status_is : status ≡ watched_status watched

@@ -3,6 +3,7 @@
 ghost use Rattle.std.specs.Prelude.{◌≡◌, Bool, false};
 ghost use Rattle.machine_commands.specs.Interrupted.{is_key};
 
+use crate::schedule::CourseSchedule;
 use crate::typist::Typist;
 use peripherals::Operator;
 use std::io;
@@ -17,6 +18,14 @@ pub trait OperatorPresence {
     /// Whether the operator left.
     fn has_left(&self) -> bool
         ensures { result ≡ left self.now };
+}
+
+impl OperatorPresence for CourseSchedule<'_> {
+    ghost left = { λ s. false };
+
+    fn has_left(&self) -> bool {
+        false
+    }
 }
 
 impl OperatorPresence for Operator<'_> {

@@ -2,20 +2,18 @@
 //! run that violates its declaration.
 #![tactic(auto)]
 
-mod continuing;
-mod declared_run;
+mod driving;
 pub mod follow;
 pub mod interrupted;
 mod last;
-mod last_session;
 pub mod laws;
 pub mod long_trace;
 pub mod messages;
 mod progress;
+mod recorder;
 pub mod running;
 mod schedule;
 pub mod session;
-mod shown_cells;
 pub mod stopped_watch;
 pub mod stopping;
 mod stops;
@@ -24,4 +22,5 @@ pub mod teletype;
 mod trace;
 mod typist;
 pub mod violations;
+mod watched;
 pub mod watching;

@@ -10,7 +10,6 @@ ghost use Rattle.command_parts.specs.Messages.{plain};
 ghost use Rattle.machine_commands.specs.RefuteText.{IsRefutationOf, unbroken_text};
 ghost use Rattle.machine_commands.specs.WatchText.{broken_text, watched_status, watched_text};
 
-use crate::progress::{AvailableInput, offered_by, progress_lines};
 use crate::violations::violation_lines;
 use bin_tape::Image;
 use command_parts::message::Message;
@@ -103,29 +102,22 @@ pub(crate) fn watched_status(watched: Watched) -> Status
     }
 }
 
-/// The lines below the verdict of a watched run, if they are requested: how far a run came that keeps the rules, or what
-/// the step is about to do that violates one.
-pub(crate) fn why_of<A: Allocator + Copy, D: Allocator>(
+/// What the last step of a run that violates the declaration is about to do, if that is requested.
+fn why_of<A: Allocator + Copy, D: Allocator>(
     alloc: A,
     image: &Image,
     declaration: &Declaration<D>,
-    events: &[Event],
-    offered: AvailableInput,
-    watched: Watched,
+    found: &Witness<A>,
     explained: bool,
 ) -> Result<Message<A>, NoMemory>
-    // Unless they are requested there are none.
+    // Unless it is requested there is nothing.
     ensures { IfOk result (λ text. explained ≡ false → plain text ≡ []) }
 {
     if !explained {
         return Ok(Message::new(alloc));
     }
-    match watched {
-        Watched::Clean => progress_lines(alloc, image, declaration, events, offered),
-        Watched::Broken { event, rule } => {
-            violation_lines(alloc, image, declaration, events, event, rule)
-        }
-    }
+    let (event, rule) = (found.event, found.rule);
+    violation_lines(alloc, image, declaration, &found.events, event, rule)
 }
 
 /// What `refute` tells of a run that violates the declaration.
@@ -145,24 +137,14 @@ fn witness_message<A: Allocator + Copy, D: Allocator>(
         (plain told.why)) }
     ensures faults { IfErr result IsMemoryFault }
 {
+    let why = why_of(alloc, image, declaration, &found, options.explained)?;
     let Witness {
-        events,
         text,
         event,
         rule,
+        ..
     } = found;
-    let watched = Watched::Broken { event, rule };
-    let offered = offered_by(&events);
-    let line = watched_line(alloc, watched)?;
-    let why = why_of(
-        alloc,
-        image,
-        declaration,
-        &events,
-        offered,
-        watched,
-        options.explained,
-    )?;
+    let line = watched_line(alloc, Watched::Broken { event, rule })?;
     Ok(RefutationMessage {
         events: text,
         line,

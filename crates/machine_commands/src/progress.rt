@@ -1,13 +1,11 @@
 //! The lines that say how far a watched run came. They are tested and not proved.
 
-use crate::declared_run::{is_continue, waits};
-use bin_tape::Image;
-use command_parts::message::{Message, MessageWriter, Written};
+use crate::watched::Progress;
+use command_parts::message::{MessageWriter, Written};
 use command_parts::sentence::Argument::{Address, Number, Text};
 use command_parts::sentence::push_sentence;
-use declaration::Declaration;
 use instruct::{DeviceOperation, Format, Operation, Profile, refers_indirectly, target};
-use peripherals::{Event, NoMemory, Panel, Seen, Start, World};
+use peripherals::{Event, Panel, World};
 use processor::Cpu;
 use std::alloc::Allocator;
 use word12::Word;
@@ -19,34 +17,6 @@ pub(crate) struct AvailableInput {
     pub frames: usize,
     /// The keys to strike.
     pub keys: usize,
-}
-
-/// How far a run came.
-#[derive(Clone, Copy)]
-struct Progress {
-    steps: usize,
-    frames: usize,
-    keys: usize,
-}
-
-impl Progress {
-    /// Counts an event by what was seen of it.
-    fn count(&mut self, event: &Event, seen: &Seen) {
-        match event {
-            Event::Step => {
-                if matches!(seen, Seen::Ran | Seen::Halted) {
-                    self.steps = self.steps.saturating_add(1);
-                }
-            }
-            Event::ReaderDone(_) => {
-                if matches!(seen, Seen::Changed) {
-                    self.frames = self.frames.saturating_add(1);
-                }
-            }
-            Event::Key(_) => self.keys = self.keys.saturating_add(1),
-            _ => {}
-        }
-    }
 }
 
 /// How many frames and keys a list of events has.
@@ -99,10 +69,11 @@ fn push_standing<L: MessageWriter, B: Allocator>(text: &mut L, world: &World<B>)
     push_sentence(text, "waits at {} for the {}\n", &arguments)
 }
 
-/// Adds how far a run came, and where it stands.
-fn push_progress<L: MessageWriter, B: Allocator>(
+/// Adds how far a run came in so many steps, and where it stands.
+pub(crate) fn push_progress<L: MessageWriter, B: Allocator>(
     text: &mut L,
     world: &World<B>,
+    steps: u64,
     came: &Progress,
     offered: AvailableInput,
 ) -> Written {
@@ -110,7 +81,7 @@ fn push_progress<L: MessageWriter, B: Allocator>(
         text,
         "steps {}, frames read {} of {}, keys struck {} of {}, bytes printed {}, bytes punched {}\n",
         &[
-            Number(came.steps),
+            Number(steps as usize),
             Number(came.frames),
             Number(offered.frames),
             Number(came.keys),
@@ -120,36 +91,4 @@ fn push_progress<L: MessageWriter, B: Allocator>(
         ],
     )?;
     push_standing(text, world)
-}
-
-/// How far the declared run of some events came.
-pub(crate) fn progress_lines<A: Allocator + Copy, D: Allocator>(
-    alloc: A,
-    image: &Image,
-    declaration: &Declaration<D>,
-    events: &[Event],
-    offered: AvailableInput,
-) -> Result<Message<A>, NoMemory> {
-    let start = Start::zero();
-    let mut world = World::load(
-        alloc,
-        image,
-        declaration.start(),
-        &start,
-        declaration.profile(),
-    );
-    let mut came = Progress {
-        steps: 0,
-        frames: 0,
-        keys: 0,
-    };
-    for event in events {
-        if !(is_continue(event) && waits(&world, declaration)) {
-            let seen = world.apply(*event)?;
-            came.count(event, &seen);
-        }
-    }
-    let mut text = Message::new(alloc);
-    push_progress(&mut text, &world, &came, offered)?;
-    Ok(text)
 }

@@ -1,27 +1,39 @@
 //! The commands that read a tape: its run and its words.
 
-ghost use Rattle.std.specs.Prelude.{◌≡◌, ◌||◌, ◌⊎◌, true, false, None, Err, IfOk, IfErr, OnOk, OnErr};
+ghost use Rattle.std.specs.Prelude.{◌≡◌, ◌||◌, false, true, IfOk, IfErr, OnOk, OnErr};
 ghost use Rattle.command_parts.specs.Dumping.{IsDump};
 ghost use Rattle.command_parts.specs.Faults.{is_fault_of_tape, fails_to_read, fails_to_write, IsEventRunFault, IsRunFault, IsTapeFault};
 ghost use Rattle.machine_commands.specs.Course.{ends_at_halt, events_in};
-ghost use Rattle.command_parts.specs.Inputs.{HasCome, TakesAtMost, TakesTape, input};
-ghost use Rattle.machine_commands.specs.Running.{IsEventRun, IsPartOf, IsPartOfEventRun, IsPartOfRoundRun, IsRoundRun, IsRunTold, IsTraceToOutput, IsTraceOfEvents, IsTraceOfRounds, status_of};
-ghost use Rattle.command_parts.specs.Writes.{FrontOf, Writes, WritesNothingOr};
-ghost use Rattle.command_parts.specs.declared.status.Fault.TheVariants.{NoMemory};
+ghost use Rattle.command_parts.specs.Inputs.{TakesAtMost, TakesTape, input};
+ghost use Rattle.machine_commands.specs.Running.{IsEventRun, IsRoundRun, IsRunOf, status_of};
+ghost use Rattle.machine_commands.specs.StoppedSession.{shown_by};
+ghost use Rattle.machine_commands.specs.Stopping.{IsRunWithStops};
+ghost use Rattle.machine_commands.specs.Summary.{whole_form};
+ghost use Rattle.command_parts.specs.Writes.{FrontOf, Writes};
+ghost use Rattle.command_parts.specs.declared.status.Status.{Status};
 ghost use Rattle.command_parts.specs.declared.status.Status.TheVariants.{Done};
 
-use crate::follow::{Course, End, follow};
-use crate::stopping::told;
-use crate::summary::summary_of;
+use crate::driving::Nowhere;
+use crate::follow::{Course, End};
+use crate::long_trace::{MnemonicStatements, Statements};
+use crate::schedule::CourseSchedule;
+use crate::session::{RunPlan, TraceOptions, run_scheduled};
+use crate::stopping::no_stops;
 use bin_tape::Image;
 use command_parts::inputs::{events_from, tape_from};
 pub use command_parts::options::RunOptions;
+use command_parts::options::SummaryForm;
 use command_parts::status::{Fault, Status};
 use command_parts::text::dump_of;
 use instruct::Profile;
-use peripherals::{Start, World};
 use std::alloc::Allocator;
 use streams::{ByteSink, ByteSource, put};
+
+/// Lines are short, and no last ones are requested.
+pub(crate) const SHORT_TRACE: TraceOptions<'static, MnemonicStatements> = TraceOptions {
+    last: None,
+    statements: None,
+};
 
 /// A run that is stuck at an unsupported word is refused.
 pub(crate) fn status_of(end: End) -> Status
@@ -33,38 +45,62 @@ pub(crate) fn status_of(end: End) -> Status
     }
 }
 
-/// Lets an image's machine go through a course, which may be the part before a step that stops the run, and writes the
-/// trace, if it is requested, the summary, and the cells that are to be shown.
-pub(crate) fn run_course<A: Allocator + Copy, W: ByteSink>(
+/// Lets an image's machine go through a course up to where it is stopped, and writes the trace, if it is requested, the
+/// lines of its last instructions, if so many or all are, the summary, and the cells that are to be shown.
+pub(crate) fn run_course<A: Allocator + Copy, N: Statements, W: ByteSink>(
+    alloc: A,
+    plan: &RunPlan<'_, N>,
+    course: &Course<'_>,
+    out: &mut W,
+) -> Result<Status, Fault>
+    requires writable { W.mark out.old ≡ false }
+    requires whole { plan.now.form ≡ whole_form }
+    ensures run { IfOk result (λ status. Writes
+        (λ text. IsRunWithStops plan.now.options plan.now.stops.now (shown_by plan.now.trace)
+        (ends_at_halt course.now) (events_in course.now) plan.now.image.now text status)
+        (W.taken out.old) (W.taken out.new)) }
+    ensures front { W.mark out.new ≡ true → plan.now.options.trace ≡ false → FrontOf
+        (λ text. (status : Status) × IsRunWithStops plan.now.options plan.now.stops.now (shown_by plan.now.trace)
+        (ends_at_halt course.now) (events_in course.now) plan.now.image.now text status)
+        (W.taken out.old) (W.taken out.new) }
+    ensures nothing { OnErr result (W.mark out.new ≡ false → plan.now.options.trace ≡ false →
+        W.taken out.new ≡ W.taken out.old) }
+    ensures faults { IfErr result IsRunFault }
+    ensures marks { W.mark out.new ≡ fails_to_write result }
+{
+    let mut schedule = CourseSchedule::new(*course);
+    run_scheduled(alloc, plan, &mut schedule, out, &mut Nowhere, &mut Nowhere)
+}
+
+/// Runs an image by a course without stops, and writes as [`run`] does.
+fn run_whole<A: Allocator + Copy, W: ByteSink>(
     alloc: A,
     image: &Image,
     options: RunOptions,
     course: &Course<'_>,
-    stopped: bool,
     out: &mut W,
 ) -> Result<Status, Fault>
     requires { W.mark out.old ≡ false }
     ensures run { IfOk result (λ status. Writes
-        (λ text. IsRunTold options None stopped (ends_at_halt course.now) (events_in course.now) image.now
-        text status)
+        (λ text. IsRunOf options (ends_at_halt course.now) (events_in course.now) image.now text status)
         (W.taken out.old) (W.taken out.new)) }
-    ensures faults { IfErr result IsRunFault }
-    ensures front { W.mark out.new ≡ true → FrontOf
-        (IsPartOf options stopped (ends_at_halt course.now) (events_in course.now) image.now)
+    ensures front { W.mark out.new ≡ true → options.trace ≡ false → FrontOf
+        (λ text. (status : Status) × IsRunOf options (ends_at_halt course.now) (events_in course.now) image.now text status)
         (W.taken out.old) (W.taken out.new) }
     ensures nothing { OnErr result (W.mark out.new ≡ false → options.trace ≡ false →
         W.taken out.new ≡ W.taken out.old) }
-    ensures traced { OnErr result (W.mark out.new ≡ false → options.trace ≡ true → Writes
-        (IsTraceToOutput options (ends_at_halt course.now) (events_in course.now) image.now)
-        (W.taken out.old) (W.taken out.new)) }
+    ensures faults { IfErr result IsRunFault }
     ensures marks { W.mark out.new ≡ fails_to_write result }
 {
-    let mut world = World::load(alloc, image, options.start, &Start::zero(), options.profile);
-    let ran = follow(&mut world, out, options.trace, course)?;
-    let outcome = told(stopped, &ran, &world);
-    let text = summary_of(alloc, &outcome, &world, &options.show)?;
-    put(out, &text)?;
-    Ok(status_of(outcome.end))
+    let stops = no_stops();
+    let plan = RunPlan {
+        image,
+        options,
+        stops: &stops,
+        trace: SHORT_TRACE,
+        form: SummaryForm::WHOLE,
+    };
+    run_course(alloc, &plan, course, out)
 }
 
 /// Runs a tape in rounds of an instruction, a completion of the printer and one of the punch, and
@@ -90,21 +126,13 @@ pub fn run<A: Allocator + Copy, R: ByteSource, W: ByteSink>(
     // A fault of the tape is the first fault of its bytes; any other comes after a good tape.
     ensures faults { IfErr result (IsTapeFault
         (input (R.mark tape.new) (R.remaining tape.old) (R.remaining tape.new))) }
-    // If a write failed, a prefix of that went out, under a trace at least of its first lines,
-    ensures front { W.mark out.new ≡ true →
-        FrontOf (IsPartOfRoundRun options (R.remaining tape.old))
+    // Without a trace, a prefix of that went out if a write failed,
+    ensures front { W.mark out.new ≡ true → options.trace ≡ false →
+        FrontOf (λ text. (status : Status) × IsRoundRun options (R.remaining tape.old) text status)
         (W.taken out.old) (W.taken out.new) }
-    // and any other fault leaves the output as it was; under a trace the whole lines may be there of
-    // the run, or of its instructions before one that prints or punches.
+    // and any other fault leaves the output as it was.
     ensures nothing { OnErr result (W.mark out.new ≡ false → options.trace ≡ false →
         W.taken out.new ≡ W.taken out.old) }
-    ensures traced { OnErr result (W.mark out.new ≡ false → options.trace ≡ true →
-        WritesNothingOr (IsTraceOfRounds options (R.remaining tape.old))
-        (W.taken out.old) (W.taken out.new)) }
-    // Reading a tape takes no memory, so where memory was refused those lines are there.
-    ensures traced_whole { result ≡ Err NoMemory → options.trace ≡ true →
-        Writes (IsTraceOfRounds options (R.remaining tape.old))
-        (W.taken out.old) (W.taken out.new) }
     // A write failed if and only if the answer says so, and so did a read.
     ensures marks { W.mark out.new ≡ fails_to_write result }
     ensures reads { R.mark tape.new ≡ fails_to_read result }
@@ -112,8 +140,7 @@ pub fn run<A: Allocator + Copy, R: ByteSource, W: ByteSink>(
     ensures takes_tape { TakesTape (R.remaining tape.old) (R.remaining tape.new) }
 {
     let image = tape_from(tape)?;
-    let course = Course::Rounds(options.rounds);
-    run_course(alloc, &image, options, &course, false, out)
+    run_whole(alloc, &image, options, &Course::Rounds(options.rounds), out)
 }
 
 /// Runs a tape by the events of a text in place of rounds, and writes as [`run`] does. The run ends
@@ -139,19 +166,12 @@ pub fn run_events<A: Allocator + Copy, R: ByteSource, E: ByteSource, W: ByteSink
     ensures faults { IfErr result (IsEventRunFault
         (input (R.mark tape.new) (R.remaining tape.old) (R.remaining tape.new))
         (input (E.mark text.new) (E.remaining text.old) (E.remaining text.new))) }
-    ensures front { W.mark out.new ≡ true →
-        FrontOf (IsPartOfEventRun options (R.remaining tape.old) (E.remaining text.old))
+    ensures front { W.mark out.new ≡ true → options.trace ≡ false → FrontOf
+        (λ text. (status : Status)
+        × IsEventRun options (R.remaining tape.old) (E.remaining text.old) text status)
         (W.taken out.old) (W.taken out.new) }
     ensures nothing { OnErr result (W.mark out.new ≡ false → options.trace ≡ false →
         W.taken out.new ≡ W.taken out.old) }
-    ensures traced { OnErr result (W.mark out.new ≡ false → options.trace ≡ true →
-        WritesNothingOr (IsTraceOfEvents options (R.remaining tape.old) (E.remaining text.old))
-        (W.taken out.old) (W.taken out.new)) }
-    // Where memory was refused those lines are there, unless it may have been wanted for the text.
-    ensures traced_whole { result ≡ Err NoMemory → options.trace ≡ true →
-        HasCome (input (E.mark text.new) (E.remaining text.old) (E.remaining text.new))
-        ⊎ Writes (IsTraceOfEvents options (R.remaining tape.old) (E.remaining text.old))
-        (W.taken out.old) (W.taken out.new) }
     ensures marks { W.mark out.new ≡ fails_to_write result }
     ensures reads { R.mark tape.new || E.mark text.new ≡ fails_to_read result }
     // The text is not read after a tape that is refused, or whose read failed.
@@ -163,7 +183,7 @@ pub fn run_events<A: Allocator + Copy, R: ByteSource, E: ByteSource, W: ByteSink
 {
     let image = tape_from(tape)?;
     let list = events_from(alloc, text)?;
-    run_course(alloc, &image, options, &Course::Listed(&list), false, out)
+    run_whole(alloc, &image, options, &Course::Listed(&list), out)
 }
 
 /// Writes a line for each word of a tape, in rising order of the addresses: the address, the word

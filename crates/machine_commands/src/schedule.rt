@@ -1,27 +1,31 @@
 //! What comes in a run: which event is due next.
 
-ghost use Rattle.std.specs.Prelude.{ℕ, ◌≡◌, ◌+◌, ◌++◌, ◌<◌, ◌≤◌, Bool, true, false, not, None, Ok, List, [], ◌∷◌, IfOk, IfErr, IfSome, OnOk, is_err};
-ghost use Rattle.instruct.specs.declared.Profile.{Profile};
+ghost use Rattle.std.specs.Prelude.{ℕ, ◌≡◌, ◌+◌, ◌<◌, ◌≤◌, Bool, false, true, None, Ok, List, [], ◌∷◌, IfOk, IfErr, IfSome, is_err, length};
 ghost use Rattle.peripherals.specs.declared.Event.{Event};
-ghost use Rattle.peripherals.specs.declared.Event.TheVariants.{Step, PrinterDone, PunchDone};
+ghost use Rattle.peripherals.specs.declared.Event.TheVariants.{Step};
 ghost use Rattle.peripherals.specs.Devices.{WorldState};
-ghost use Rattle.peripherals.specs.Events.{completed};
-ghost use Rattle.peripherals.specs.Operator.{plan_of};
-ghost use Rattle.peripherals.specs.World.{view, profile_of};
+ghost use Rattle.peripherals.specs.World.{view};
+ghost use Rattle.declaration.specs.DeclarationInCode.{meaning};
 ghost use Rattle.command_parts.specs.declared.status.Fault.TheVariants.{Device};
 ghost use Rattle.command_parts.specs.declared.status.DeviceFault.TheVariants.{Read};
-ghost use Rattle.machine_commands.specs.Follows.{goes_on};
+ghost use Rattle.machine_commands.specs.Course.{ends_at_halt, events_in};
+ghost use Rattle.machine_commands.specs.Follows.{Conduct};
 ghost use Rattle.machine_commands.specs.Schedule.{Extent, ToStep};
 ghost use Rattle.machine_commands.specs.SessionParts.{IsNext, steps_in};
 
+use crate::follow::Course;
 use command_parts::status::Fault;
-use peripherals::{Event, NoMemory, Operator, Seen, World};
+use declaration::Declaration;
+use peripherals::{Event, Operator, World};
 use std::alloc::Allocator;
 
 /// Says which event is due next.
 pub(crate) trait Scheduler {
-    /// These events come from here on in a world, all of them or the first ones.
-    ghost brings: { Self → Profile → WorldState → Extent → List Event → Type 0 };
+    /// These events come from here on in a world, all of them or the first ones, by what events do.
+    ghost brings: { Self → Conduct → WorldState → Extent → List Event → Type 0 };
+
+    /// A halt ends the run.
+    ghost ends: { Self → Bool };
 
     /// How many events may come at most.
     ghost events_to_come: { Self → ℕ };
@@ -32,9 +36,6 @@ pub(crate) trait Scheduler {
     /// Whether a read of a frame or of a key failed.
     ghost unread: { Self → Bool };
 
-    /// Whether the last event was an instruction.
-    ghost stepped: { Self → Bool };
-
     /// The event that is due in a world, which counts as having come; none if the run is over.
     ///
     /// # Errors
@@ -43,39 +44,81 @@ pub(crate) trait Scheduler {
     fn next_event<A: Allocator>(&mut self, world: &World<A>) -> Result<Option<Event>, Fault>
         requires { unread self.old ≡ false }
         ensures over { result ≡ Ok None →
-            (p : Profile) (extent : Extent) → brings self.old p (view world.now) extent [] }
+            (c : Conduct) (extent : Extent) → brings self.old c (view world.now) extent [] }
         ensures due { IfOk result (λ due.
-            IfSome due (IsNext brings self.old self.new (view world.now))) }
+            IfSome due (IsNext brings (ends self.old) self.old self.new (view world.now))) }
         ensures to_step { IfOk result (λ due. IfSome due (λ e. e ≡ Step →
-            (p : Profile) → brings self.old p (view world.now) ToStep (Step ∷ []))) }
+            (c : Conduct) → brings self.old c (view world.now) ToStep (Step ∷ []))) }
         ensures fewer { IfOk result (λ due. IfSome due (λ e. events_to_come self.new < events_to_come self.old)) }
         ensures steps { IfOk result (λ due.
             IfSome due (λ e. steps_in e + steps_to_come self.new ≤ steps_to_come self.old)) }
-        ensures stepped { IfOk result (λ due.
-            IfSome due (λ e. e ≡ Step → stepped self.new ≡ true)) }
         ensures faults { IfErr result (λ fault. fault ≡ Device Read) }
-        ensures marks { unread self.new ≡ is_err result };
+        ensures marks { unread self.new ≡ is_err result }
+        ensures same_end { ends self.new ≡ ends self.old };
 
-    /// After an instruction two events are due whatever it did, and both happen: the printer gets done,
-    /// and the punch.
-    fn complete_devices<A: Allocator>(&mut self, world: &mut World<A>)
-        requires stepped { stepped self.old ≡ true }
-        ensures done { view world.new ≡ completed (view world.old) }
-        ensures profile { profile_of world.new ≡ profile_of world.old }
-        ensures brings { (p : Profile) (extent : Extent) (es : List Event) →
-            brings self.new p (completed (view world.old)) extent es →
-            brings self.old p (view world.old) extent (PrinterDone ∷ PunchDone ∷ es) }
-        ensures left { events_to_come self.new ≤ events_to_come self.old }
-        ensures steps { steps_to_come self.new ≡ steps_to_come self.old }
-        ensures marks { unread self.new ≡ unread self.old };
+    /// Whether a halt ends the run.
+    fn ends_at_halt(&self) -> bool
+        ensures { result ≡ ends self.now };
+}
+
+/// The events of a course, one after the other.
+#[derive(Clone, Copy, Debug)]
+pub(crate) struct CourseSchedule<'e> {
+    course: Course<'e>,
+    index: usize,
+}
+
+impl<'e> CourseSchedule<'e> {
+    /// All events of a course.
+    pub(crate) fn new(course: Course<'e>) -> CourseSchedule<'e>
+        ensures course { result.course ≡ course }
+        ensures first { result.index ≡ 0 }
+        ensures few { length (events_in course) < 18446744073709551616 }
+    {
+        let _few = course.len();
+        CourseSchedule { course, index: 0 }
+    }
+}
+
+impl Scheduler for CourseSchedule<'_> {
+    ghost use Rattle.std.specs.Prelude.{◌-◌, drop};
+    ghost use Rattle.machine_commands.specs.Schedule.{Comes, listing};
+
+    ghost brings = { λ s c w extent events.
+        Comes (listing (ends_at_halt s.course)) c extent (drop s.index (events_in s.course)) w events };
+
+    ghost ends = { λ s. ends_at_halt s.course };
+
+    ghost events_to_come = { λ s. length (events_in s.course) - s.index };
+
+    ghost steps_to_come = { λ s. length (events_in s.course) - s.index };
+
+    ghost unread = { λ s. false };
+
+    #[inline(always)]
+    fn next_event<A: Allocator>(&mut self, _: &World<A>) -> Result<Option<Event>, Fault> {
+        if self.index >= self.course.len() {
+            return Ok(None);
+        }
+        let event = self.course.event(self.index);
+        self.index += 1;
+        Ok(Some(event))
+    }
+
+    #[inline(always)]
+    fn ends_at_halt(&self) -> bool {
+        self.course.ends_at_halt()
+    }
 }
 
 impl Scheduler for Operator<'_> {
     ghost use Rattle.peripherals.specs.Operator.{plan_of};
     ghost use Rattle.machine_commands.specs.Schedule.{Comes, operating};
-    ghost use Rattle.machine_commands.specs.SessionParts.{events_left, has_stepped, place_of};
+    ghost use Rattle.machine_commands.specs.SessionParts.{events_left, place_of};
 
-    ghost brings = { λ o p w extent events. Comes operating p extent (place_of o) w events };
+    ghost brings = { λ o c w extent events. Comes operating c extent (place_of o) w events };
+
+    ghost ends = { λ o. true };
 
     ghost events_to_come = { λ o. events_left (plan_of o) o.last };
 
@@ -83,28 +126,76 @@ impl Scheduler for Operator<'_> {
 
     ghost unread = { λ o. false };
 
-    ghost stepped = { λ o. has_stepped o.last };
-
+    #[inline(always)]
     fn next_event<A: Allocator>(&mut self, world: &World<A>) -> Result<Option<Event>, Fault> {
         Ok(self.next(world))
     }
 
     #[inline(always)]
-    fn complete_devices<A: Allocator>(&mut self, world: &mut World<A>) {
-        self.complete(world);
+    fn ends_at_halt(&self) -> bool {
+        true
     }
 }
 
-/// Adds an event.
-pub(crate) fn keep<A: Allocator>(events: &mut Vec<Event, A>, event: &Event) -> Result<(), NoMemory>
-    ensures { OnOk result (events.new.items ≡ events.old.items ++ event.now ∷ []) }
-{
-    events.push(*event).map_err(|_| NoMemory)
+/// An operator who presses CONTINUE where the machine is halted at a declared pause, at most so many times. The run ends
+/// at another halt, and at any once no press is left.
+#[derive(Drop)]
+pub(crate) struct Continuing<'o, 'd, D: Allocator> {
+    operator: Operator<'o>,
+    declaration: &'d Declaration<D>,
+    left: u32,
 }
 
-/// Whether a run ends with what was seen: at a halt and at an unsupported word.
-pub(crate) fn ends(seen: &Seen) -> bool
-    ensures { result ≡ not (goes_on true seen.now) }
-{
-    matches!(seen, Seen::Halted | Seen::Unsupported(_))
+impl<'o, 'd, D: Allocator> Continuing<'o, 'd, D> {
+    /// This operator, with so many presses at most.
+    pub(crate) fn new(
+        operator: Operator<'o>,
+        declaration: &'d Declaration<D>,
+        left: u32,
+    ) -> Continuing<'o, 'd, D>
+        ensures operator { result.operator ≡ operator }
+        ensures declaration { result.declaration.now ≡ declaration.now }
+        ensures left { result.left ≡ left }
+    {
+        Continuing {
+            operator,
+            declaration,
+            left,
+        }
+    }
+}
+
+impl<D: Allocator> Scheduler for Continuing<'_, '_, D> {
+    ghost use Rattle.peripherals.specs.Operator.{plan_of};
+    ghost use Rattle.machine_commands.specs.Continued.{continuing, pressing};
+    ghost use Rattle.machine_commands.specs.Schedule.{Comes};
+    ghost use Rattle.machine_commands.specs.SessionParts.{events_left, place_of};
+
+    ghost brings = { λ s c w extent events. Comes (continuing (meaning s.declaration.now)) c extent
+        (pressing (place_of s.operator) s.left) w events };
+
+    ghost ends = { λ s. false };
+
+    ghost events_to_come = { λ s. events_left (plan_of s.operator) s.operator.last + s.left };
+
+    ghost steps_to_come = { λ s. s.operator.rounds };
+
+    ghost unread = { λ s. false };
+
+    fn next_event<A: Allocator>(&mut self, world: &World<A>) -> Result<Option<Event>, Fault> {
+        match world.halted_at() {
+            None => Ok(self.operator.next(world)),
+            Some(at) => {
+                if self.left == 0 || !self.declaration.is_pause(at) {
+                    return Ok(None);
+                }
+                self.left -= 1;
+                Ok(Some(Event::Continue))
+            }
+        }
+    }
+
+    fn ends_at_halt(&self) -> bool {
+        false
+    }
 }

@@ -1,131 +1,206 @@
 //! What is told of a watched run up to where it is stopped, with its last instructions.
 
-ghost use Rattle.std.specs.Prelude.{◌≡◌, None, IfOk, IfErr};
+ghost use Rattle.std.specs.Prelude.{◌≡◌, ◌++◌, ◌<◌, ◌||◌, None, false, codes, decimal, IfOk, IfErr, OnOk};
 ghost use Rattle.wordset.specs.Lanes.{words};
 ghost use Rattle.declaration.specs.DeclarationInCode.{meaning};
-ghost use Rattle.peripherals.specs.Operator.{plan_of};
-ghost use Rattle.peripherals.specs.World.{profile_of, view};
+ghost use Rattle.peripherals.specs.World.{view};
 ghost use Rattle.command_parts.specs.Answers.{IsMemoryFault};
 ghost use Rattle.command_parts.specs.Messages.{plain};
-ghost use Rattle.machine_commands.specs.Continued.{IsLine, IsWatch, came_by};
+ghost use Rattle.machine_commands.specs.Continued.{line_text, went_text};
 ghost use Rattle.machine_commands.specs.Session.{plan_for};
-ghost use Rattle.machine_commands.specs.StoppedWatch.{IsPlanToStop, IsWatchToStop};
+ghost use Rattle.machine_commands.specs.StoppedSession.{shown_by};
+ghost use Rattle.machine_commands.specs.StoppedWatch.{IsListToStop, IsPlanToStop, IsWatchToStop};
 
-use crate::continuing::{continued_events_of, how_far_line};
-use crate::declared_run::{declared_cut, lines_before};
-use crate::messages::{RunMessage, watched_line, watched_status, why_of};
-use crate::progress::{AvailableInput, offered_by};
-use crate::shown_cells::shown_of;
+use crate::driving::{DrivenRun, Machine, Nowhere, drive};
+use crate::follow::{Course, End};
+use crate::long_trace::{MnemonicStatements, Statements};
+use crate::messages::{RunMessage, watched_line, watched_status};
+use crate::progress::{AvailableInput, offered_by, push_progress};
+use crate::recorder::{Recorder, TraceOptions};
+use crate::running::SHORT_TRACE;
+use crate::schedule::{Continuing, CourseSchedule, Scheduler};
+use crate::stopping::no_stops;
+use crate::summary::{push_shown, push_state};
+use crate::violations::push_violation;
+use crate::watched::WatchedMachine;
 use bin_tape::Image;
+use command_parts::message::Message;
 use command_parts::options::{SessionOptions, Stops};
 use command_parts::status::Fault;
+use command_parts::text::push_place;
 use declaration::Declaration;
-use peripherals::{Event, NoMemory, Operator, Start, World};
+use itoa::Buffer;
+use peripherals::{Event, NoMemory, Operator, World};
 use policy::Watched;
-use std::alloc::Allocator;
+use std::alloc::{AllocError, Allocator};
 use wordset::WordSet;
 
 /// How a watched run is told.
 #[derive(Clone, Copy)]
-pub struct WatchOptions<'s> {
+pub struct WatchOptions<'s, N> {
     /// Where the run is stopped.
     pub stops: &'s Stops,
-    /// How many of its last instructions are shown, if that is requested.
-    pub last: Option<u32>,
+    /// How its last instructions are shown, if that is requested.
+    pub trace: TraceOptions<'s, N>,
     /// Whether it is said what violates a rule, or how far the run got.
     pub explained: bool,
     /// The cells whose words are shown when the run is over.
     pub show: &'s WordSet,
 }
 
-/// The line of a watched run: what was seen; or, with a number of times that the operator may press CONTINUE, how far the
-/// run went, or the rule that is violated.
-fn line_of<A: Allocator + Copy, D: Allocator>(
+/// Lets a watched machine go through a course, of which nothing is told.
+pub(crate) fn run_quietly<A: Allocator + Copy, D: Allocator>(
     alloc: A,
-    image: &Image,
-    declaration: &Declaration<D>,
-    events: &[Event],
-    watched: Watched,
-    continues: Option<u32>,
-) -> Result<Vec<u8, A>, NoMemory>
-    ensures { IfOk result (λ text. IsLine continues image.now (meaning declaration.now) events.now watched
-        text.items) }
-{
-    match continues {
-        None => Ok(watched_line(alloc, watched)?),
-        Some(times) => how_far_line(alloc, image, declaration, events, watched, times),
+    machine: &mut WatchedMachine<'_, A, D>,
+    course: Course<'_>,
+) -> Result<(), NoMemory> {
+    let mut recorder = Recorder::<MnemonicStatements, A>::new(alloc, false, &SHORT_TRACE);
+    let mut schedule = CourseSchedule::new(course);
+    let stops = no_stops();
+    let (report, teletype) = (&mut Nowhere, &mut Nowhere);
+    match drive(
+        machine,
+        &mut schedule,
+        &stops,
+        &mut recorder,
+        report,
+        teletype,
+    ) {
+        Ok(_) => Ok(()),
+        Err(_) => Err(NoMemory),
     }
 }
 
-/// What is told of the run of some events, by what there was to come: its line, and below it, if it is to be explained, how far
-/// the run came or what the step is about to do that violates a rule, and the cells that are to be shown.
-pub(crate) fn watch_of<A: Allocator + Copy, D: Allocator>(
+/// What is seen of a watched run in which so many events came.
+fn watched_of(ran: &DrivenRun, events: usize) -> Watched {
+    match ran.broken {
+        None => Watched::Clean,
+        Some(rule) => Watched::Broken {
+            event: events,
+            rule,
+        },
+    }
+}
+
+/// The line that says how far a run went in which every step is legal.
+fn went_line<A: Allocator, B: Allocator>(
+    alloc: A,
+    passed: usize,
+    most: u32,
+    world: &World<B>,
+) -> Result<Vec<u8, A>, AllocError>
+    ensures { IfOk result (λ text. text.items ≡ went_text passed most (view world.now)) }
+{
+    let mut text = Vec::new(alloc);
+    text.extend_from_slice(b"clean: pauses passed ")?;
+    text.extend_from_slice(Buffer::new().format(passed).as_bytes())?;
+    text.extend_from_slice(b" of ")?;
+    text.extend_from_slice(Buffer::new().format(most).as_bytes())?;
+    text.extend_from_slice(b", ")?;
+    match world.halted_at() {
+        Some(at) => push_place(&mut text, b"halted at ", at)?,
+        None => push_place(&mut text, b"the next instruction is at ", world.cpu().pc)?,
+    }
+    text.extend_from_slice(b"\n")?;
+    Ok(text)
+}
+
+/// The line of a watched run: what was seen; or, with a number of times that the operator may press CONTINUE, how far the
+/// run went, or the rule that is violated.
+fn line_of<A: Allocator, B: Allocator>(
+    alloc: A,
+    watched: Watched,
+    continues: Option<u32>,
+    passed: usize,
+    world: &World<B>,
+) -> Result<Vec<u8, A>, AllocError>
+    ensures { IfOk result (λ text.
+        text.items ≡ line_text continues watched passed (view world.now)) }
+{
+    match continues {
+        None => watched_line(alloc, watched),
+        Some(most) => match watched {
+            Watched::Clean => went_line(alloc, passed, most, world),
+            Watched::Broken { .. } => watched_line(alloc, watched),
+        },
+    }
+}
+
+/// What comes before the line of a watched run: the lines of its last instructions, and where it was stopped, if it was.
+fn lines_before<N, A: Allocator + Copy, B: Allocator>(
+    recorder: &Recorder<'_, N, A>,
+    ran: &DrivenRun,
+    world: &World<B>,
+) -> Result<Vec<u8, A>, AllocError> {
+    let mut lines = recorder.last_lines()?;
+    if matches!(ran.outcome.end, End::Stopped(_)) {
+        push_state(&mut lines, &ran.outcome, world)?;
+    }
+    Ok(lines)
+}
+
+/// What is told below the line of a watched run, by what there was to come: if it is to be explained, how far the run came
+/// or what the step is about to do that violates a rule; and the cells that are to be shown.
+fn details_of<N, A: Allocator + Copy, D: Allocator>(
+    alloc: A,
+    machine: &WatchedMachine<'_, A, D>,
+    declaration: &Declaration<D>,
+    ran: &DrivenRun,
+    offered: AvailableInput,
+    telling: &WatchOptions<'_, N>,
+) -> Result<Message<A>, AllocError> {
+    let mut details = Message::new(alloc);
+    if telling.explained {
+        let (steps, came) = (ran.outcome.steps, machine.came());
+        match ran.broken {
+            None => push_progress(&mut details, machine.world(), steps, came, offered)?,
+            Some(rule) => push_violation(&mut details, machine, declaration, rule)?,
+        }
+    }
+    let mut shown = Vec::new(alloc);
+    push_shown(&mut shown, telling.show, machine.world())?;
+    details.push_lines(&shown)?;
+    Ok(details)
+}
+
+/// What is told of the run that a schedule brings, up to where it is stopped or violates a rule, by what there was to come.
+fn watch_by<S: Scheduler, N: Statements, A: Allocator + Copy, D: Allocator>(
     alloc: A,
     image: &Image,
     declaration: &Declaration<D>,
-    events: &[Event],
+    schedule: &mut S,
     offered: AvailableInput,
     continues: Option<u32>,
-    telling: &WatchOptions<'_>,
+    telling: &WatchOptions<'_, N>,
 ) -> Result<RunMessage<A>, Fault>
-    ensures told { IfOk result (λ run. IsWatch continues telling.now.explained
-        (words telling.now.show.now) image.now (meaning declaration.now) events.now run.status
-        run.lines.items (plain run.details)) }
-    ensures faults { IfErr result IsMemoryFault }
+    requires readable { S.unread schedule.old ≡ false }
+    requires few { S.steps_to_come schedule.old < 18446744073709551616 }
+    ensures told { IfOk result (λ run. IsWatchToStop (S.brings schedule.old) (S.ends schedule.old) continues
+        telling.now.stops.now (shown_by telling.now.trace) telling.now.explained
+        (words telling.now.show.now) image.now (meaning declaration.now)
+        run.status run.lines.items (plain run.details)) }
 {
-    let (explained, show) = (telling.explained, telling.show);
-    let watched = policy::watch(alloc, image, declaration, &Start::zero(), events)?;
-    let lines = line_of(alloc, image, declaration, events, watched, continues)?;
-    let mut details = why_of(
-        alloc,
-        image,
-        declaration,
-        events,
-        offered,
-        watched,
-        explained,
+    let mut machine = WatchedMachine::new(alloc, image, declaration);
+    let mut recorder = Recorder::new(alloc, false, &telling.trace);
+    let (report, teletype) = (&mut Nowhere, &mut Nowhere);
+    let ran = drive(
+        &mut machine,
+        schedule,
+        telling.stops,
+        &mut recorder,
+        report,
+        teletype,
     )?;
-    let shown = shown_of(alloc, image, declaration, events, watched, show)?;
-    details.push_lines(&shown)?;
-    let status = watched_status(watched);
+    let watched = watched_of(&ran, machine.came().events);
+    let passed = machine.came().presses;
+    let line = line_of(alloc, watched, continues, passed, machine.world())?;
+    let mut lines = lines_before(&recorder, &ran, machine.world())?;
+    lines.extend_from_slice(&line)?;
+    let details = details_of(alloc, &machine, declaration, &ran, offered, telling)?;
     Ok(RunMessage {
         lines,
         details,
-        status,
-    })
-}
-
-/// What is told of the run of some events up to where it is stopped.
-fn told_to_stop<A: Allocator + Copy, D: Allocator>(
-    alloc: A,
-    image: &Image,
-    declaration: &Declaration<D>,
-    events: &[Event],
-    offered: AvailableInput,
-    continues: Option<u32>,
-    telling: &WatchOptions<'_>,
-) -> Result<RunMessage<A>, Fault>
-    ensures told { IfOk result (λ run. IsWatchToStop continues telling.now.stops.now telling.now.last
-        telling.now.explained (words telling.now.show.now) image.now (meaning declaration.now) events.now
-        run.status run.lines.items (plain run.details)) }
-    ensures faults { IfErr result IsMemoryFault }
-{
-    let cut = declared_cut(alloc, image, declaration, telling.stops, events)?;
-    let mut lines = lines_before(alloc, image, declaration, &cut, telling.last)?;
-    let seen = watch_of(
-        alloc,
-        image,
-        declaration,
-        cut.events,
-        offered,
-        continues,
-        telling,
-    )?;
-    lines.extend_from_slice(&seen.lines)?;
-    Ok(RunMessage {
-        lines,
-        details: seen.details,
-        status: seen.status,
+        status: watched_status(watched),
     })
 }
 
@@ -136,40 +211,29 @@ fn told_to_stop<A: Allocator + Copy, D: Allocator>(
 ///
 /// `NoMemory`.
 #[inline(never)]
-pub fn watch_message_to_stop<A: Allocator + Copy, D: Allocator>(
+pub fn watch_message_to_stop<A: Allocator + Copy, N: Statements, D: Allocator>(
     alloc: A,
     image: &Image,
     declaration: &Declaration<D>,
     events: &[Event],
-    telling: &WatchOptions<'_>,
+    telling: &WatchOptions<'_, N>,
 ) -> Result<RunMessage<A>, Fault>
-    ensures told { IfOk result (λ run. IsWatchToStop None telling.now.stops.now telling.now.last
+    ensures told { IfOk result (λ run. IsListToStop telling.now.stops.now (shown_by telling.now.trace)
         telling.now.explained (words telling.now.show.now) image.now (meaning declaration.now) events.now
         run.status run.lines.items (plain run.details)) }
     ensures faults { IfErr result IsMemoryFault }
 {
+    let mut schedule = CourseSchedule::new(Course::Listed(events));
     let offered = offered_by(events);
-    told_to_stop(alloc, image, declaration, events, offered, None, telling)
-}
-
-/// The events that an operator brings from here on, who presses CONTINUE at declared pauses if there is a number of
-/// times.
-fn events_that_come<A: Allocator + Copy, B: Allocator, D: Allocator>(
-    alloc: A,
-    world: &mut World<B>,
-    operator: &mut Operator<'_>,
-    declaration: &Declaration<D>,
-    continues: Option<u32>,
-) -> Result<Vec<Event, A>, NoMemory>
-    requires first { operator.old.last ≡ None }
-    requires profile { profile_of world.old ≡ (meaning declaration.now).profile }
-    ensures come { IfOk result (λ events. came_by continues (plan_of operator.old)
-        (meaning declaration.now) (view world.old) events.items) }
-{
-    match continues {
-        None => continued_events_of(alloc, world, operator, declaration, 0),
-        Some(times) => continued_events_of(alloc, world, operator, declaration, times),
-    }
+    watch_by(
+        alloc,
+        image,
+        declaration,
+        &mut schedule,
+        offered,
+        None,
+        telling,
+    )
 }
 
 /// What `watch` tells of a run with an operator, by the frames in the reader and the keys to strike, up to where it is
@@ -179,7 +243,7 @@ fn events_that_come<A: Allocator + Copy, B: Allocator, D: Allocator>(
 ///
 /// `NoMemory`.
 #[inline(never)]
-pub fn watch_session_message_to_stop<A: Allocator + Copy, D: Allocator>(
+pub fn watch_session_message_to_stop<A: Allocator + Copy, N: Statements, D: Allocator>(
     alloc: A,
     image: &Image,
     declaration: &Declaration<D>,
@@ -187,34 +251,26 @@ pub fn watch_session_message_to_stop<A: Allocator + Copy, D: Allocator>(
     keys: &[u8],
     options: &SessionOptions,
     continues: Option<u32>,
-    telling: &WatchOptions<'_>,
+    telling: &WatchOptions<'_, N>,
 ) -> Result<RunMessage<A>, Fault>
     ensures told { IfOk result (λ run. IsPlanToStop continues
-        (plan_for options.now frames.now keys.now) telling.now.stops.now telling.now.last
+        (plan_for options.now frames.now keys.now) telling.now.stops.now (shown_by telling.now.trace)
         telling.now.explained (words telling.now.show.now) image.now (meaning declaration.now)
         run.status run.lines.items (plain run.details)) }
     ensures faults { IfErr result IsMemoryFault }
 {
     let (rounds, mark) = (options.run.rounds, options.mark);
-    let mut operator = Operator::new(options.switches, rounds, frames, keys, mark);
-    let start = Start::zero();
-    let mut world = World::load(
-        alloc,
-        image,
-        declaration.start(),
-        &start,
-        declaration.profile(),
-    );
+    let operator = Operator::new(options.switches, rounds, frames, keys, mark);
+    let mut schedule = Continuing::new(operator, declaration, continues.unwrap_or(0));
     let offered = AvailableInput {
         frames: frames.len(),
         keys: keys.len(),
     };
-    let events = events_that_come(alloc, &mut world, &mut operator, declaration, continues)?;
-    told_to_stop(
+    watch_by(
         alloc,
         image,
         declaration,
-        &events,
+        &mut schedule,
         offered,
         continues,
         telling,

@@ -1,18 +1,15 @@
 //! Where a run is stopped.
 
-ghost use Rattle.std.specs.Prelude.{◌≡◌, ◌≤◌, ◌<◌, ◌+◌, ◌||◌, IfOk};
+ghost use Rattle.std.specs.Prelude.{◌≡◌, ◌≤◌, ◌<◌, ◌+◌, ◌||◌};
 ghost use Rattle.processor.specs.declared.fetch.DecodedInstruction.TheVariants.{Refers};
 ghost use Rattle.wordset.specs.Lanes.{words};
 ghost use Rattle.processor.specs.Steps.{state_of};
 ghost use Rattle.peripherals.specs.World.{view, profile_of};
-ghost use Rattle.machine_commands.specs.Course.{ends_at_halt, events_in};
-ghost use Rattle.machine_commands.specs.Follows.{goes_on};
-ghost use Rattle.machine_commands.specs.Stops.{IsStop, is_asked_for, is_at, reads_one, stops_before, visits_with, writes_one};
+ghost use Rattle.machine_commands.specs.Stops.{is_asked_for, is_at, reads_one, stops_before, visits_with, writes_one};
 
-use crate::follow::Course;
 use command_parts::options::Stops;
 use instruct::Operation;
-use peripherals::{Event, NoMemory, Seen, World};
+use peripherals::{Event, World};
 use processor::{Cpu, DecodedInstruction, Reference};
 use std::alloc::Allocator;
 use word12::Word;
@@ -112,40 +109,4 @@ pub(crate) fn visits_with<A: Allocator>(
         }
         _ => visits,
     }
-}
-
-/// Whether a run goes on after what was seen, where it ends at a halt or does not.
-pub(crate) fn goes_on(ends_at_halt: bool, seen: &Seen) -> bool
-    ensures { result ≡ goes_on ends_at_halt seen.now }
-{
-    match seen {
-        Seen::Unsupported(_) => false,
-        Seen::Halted => !ends_at_halt,
-        _ => true,
-    }
-}
-
-/// After how many events the run of a course is stopped; none if it is not. It takes the world through
-/// the course up to there.
-pub(crate) fn stop_in<A: Allocator>(
-    world: &mut World<A>,
-    course: &Course<'_>,
-    stops: &Stops,
-) -> Result<Option<usize>, NoMemory>
-    ensures { IfOk result (IsStop stops.now (profile_of world.old) (ends_at_halt course.now)
-        (events_in course.now) (view world.old)) }
-{
-    let mut visits = 0;
-    for index in 0..course.len() {
-        let event = course.event(index);
-        if stops_before(stops, visits, world, &event) {
-            return Ok(Some(index));
-        }
-        visits = visits_with(stops, visits, world, &event);
-        let seen = world.apply(event)?;
-        if !goes_on(course.ends_at_halt(), &seen) {
-            return Ok(None);
-        }
-    }
-    Ok(None)
 }

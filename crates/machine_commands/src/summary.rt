@@ -6,8 +6,8 @@ ghost use Rattle.processor.specs.Cells.{cell_of};
 ghost use Rattle.processor.specs.Steps.{state_of};
 ghost use Rattle.peripherals.specs.World.{view};
 ghost use Rattle.command_parts.specs.LinkText.{link_text};
-ghost use Rattle.machine_commands.specs.Session.{character, leaves_open, parting, summary_where};
-ghost use Rattle.machine_commands.specs.Summary.{end_text, registers_text, state_line, byte_text, bytes_text, output_line, cell_line, cells_below, cells_text, closing, closing_as, frames_word, printed_line, punched_line, saved_line, summary_as};
+ghost use Rattle.machine_commands.specs.Session.{character, closing_behind, leaves_open, parting};
+ghost use Rattle.machine_commands.specs.Summary.{end_text, registers_text, state_line, byte_text, bytes_text, output_line, cell_line, cells_below, cells_text, closing_as, frames_word, printed_line, punched_line, saved_line, summary_as};
 
 use crate::follow::{End, RunOutcome};
 use command_parts::options::SummaryForm;
@@ -181,7 +181,7 @@ fn leaves_open(printed: &[u8]) -> bool
 }
 
 /// What comes before a summary that is to stand apart: the end of an open line.
-pub(crate) fn parting(apart: bool, printed: &[u8]) -> &'static [u8]
+fn parting(apart: bool, printed: &[u8]) -> &'static [u8]
     ensures { result.now ≡ parting apart (map character printed.now) }
 {
     if !apart {
@@ -272,7 +272,7 @@ fn push_summary<A: Allocator, B: Allocator>(
 }
 
 /// Adds the summary of a run in a form, and after it the cells that are to be shown.
-pub(crate) fn push_closing<A: Allocator, B: Allocator>(
+fn push_closing<A: Allocator, B: Allocator>(
     text: &mut Vec<u8, A>,
     form: &SummaryForm<'_>,
     outcome: &RunOutcome,
@@ -286,33 +286,22 @@ pub(crate) fn push_closing<A: Allocator, B: Allocator>(
     push_shown(text, show, world)
 }
 
-/// The end of a report: the summary, on a line of its own where it is to stand apart, and the cells that
-/// are to be shown.
+/// The end of a report: the lines of the last instructions, the summary, both on lines of their own where it is to stand
+/// apart, and the cells that are to be shown.
 pub(crate) fn closing_of<A: Allocator, B: Allocator>(
     alloc: A,
+    last: &[u8],
     outcome: &RunOutcome,
     world: &World<B>,
     form: &SummaryForm<'_>,
     show: &WordSet,
 ) -> Result<Vec<u8, A>, AllocError>
-    ensures { IfOk result (λ text. text.items ≡ summary_where (words show.now) form.now
+    ensures { IfOk result (λ text. text.items ≡ closing_behind last.now (words show.now) form.now
         outcome.now.end (view world.now) outcome.now.steps) }
 {
     let mut text = Vec::new(alloc);
     text.extend_from_slice(parting(form.apart, world.printed()))?;
+    text.extend_from_slice(last)?;
     push_closing(&mut text, form, outcome, world, show)?;
     Ok(text)
-}
-
-/// The summary of a run, and after it the cells that are to be shown.
-pub fn summary_of<A: Allocator, B: Allocator>(
-    alloc: A,
-    outcome: &RunOutcome,
-    world: &World<B>,
-    show: &WordSet,
-) -> Result<Vec<u8, A>, AllocError>
-    ensures { IfOk result (λ text. text.items
-        ≡ closing (words show.now) outcome.now.end (view world.now) outcome.now.steps) }
-{
-    closing_of(alloc, outcome, world, &SummaryForm::WHOLE, show)
 }

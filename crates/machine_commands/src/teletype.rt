@@ -4,12 +4,13 @@ ghost use Rattle.std.specs.Prelude.{◌≡◌, ◌||◌, ◌⊎◌, false, true,
 ghost use Rattle.command_parts.specs.Faults.{is_fault_of_tape, fails_to_read, fails_to_write};
 ghost use Rattle.command_parts.specs.Inputs.{TakesTape, input};
 ghost use Rattle.machine_commands.specs.Session.{WritesAll, taken};
-ghost use Rattle.machine_commands.specs.StoppedSession.{IsTypedToStop};
+ghost use Rattle.machine_commands.specs.StoppedSession.{IsTypedToStop, shown_by};
 ghost use Rattle.machine_commands.specs.Teletype.{IsTypedFault, run_of};
 
 use crate::interrupted::OperatorPresence;
+use crate::long_trace::Statements;
 pub use crate::session::Outputs;
-use crate::session::run_scheduled;
+use crate::session::{RunPlan, TraceOptions, run_scheduled};
 pub use crate::typist::{KeyOptions, TeletypeOptions, Typist};
 use command_parts::inputs::tape_from;
 use command_parts::options::{RunOptions, Stops, SummaryForm};
@@ -36,8 +37,8 @@ pub(crate) fn run_of(options: TeletypeOptions) -> RunOptions
 /// then the summary in the form that is requested. The session ends early at a halt, at an unsupported word, where a key
 /// is requested and none is left, and before the first step that is to stop it; nothing stops one with
 /// [`crate::stopping::no_stops`]. The summary says where it was stopped, or where the key was struck that interrupts it,
-/// and shows the machine as it was there. Where `last` is given, the lines of the last instructions, so many or all, come
-/// before it; which lines these are is tested and not proved.
+/// and shows the machine as it was there. The lines of the last instructions, if so many or all are requested, come before
+/// it.
 ///
 /// # Errors
 ///
@@ -48,6 +49,7 @@ pub fn teletype<
     R: ByteSource,
     F: ByteSource,
     K: ByteSource + OperatorPresence,
+    N: Statements,
     W: ByteSink,
     T: ByteSink,
     P: ByteSink,
@@ -56,7 +58,7 @@ pub fn teletype<
     tape: &mut R,
     typist: &mut Typist<F, K>,
     stops: &Stops,
-    last: Option<u32>,
+    trace: TraceOptions<'_, N>,
     form: SummaryForm<'_>,
     out: &mut Outputs<W, T, P>,
 ) -> Result<Status, Fault>
@@ -69,7 +71,7 @@ pub fn teletype<
     // What is written, typed and punched is that of the run of the events that come, up to the first step that stops
     // it, behind the lines of the last instructions where these are requested.
     ensures run { IfOk result (λ status.
-        WritesAll (IsTypedToStop typist.old.options stops.now last form.entry (K.left typist.new.keys) (R.remaining tape.old)
+        WritesAll (IsTypedToStop typist.old.options stops.now (shown_by trace) form.entry (K.left typist.new.keys) (R.remaining tape.old)
         (F.remaining typist.old.reader) (K.remaining typist.old.keys) status)
         (taken (W.taken out.old.report) (T.taken out.old.teletype) (P.taken out.old.punch))
         (taken (W.taken out.new.report) (T.taken out.new.teletype) (P.taken out.new.punch))) }
@@ -93,7 +95,18 @@ pub fn teletype<
     ensures takes_tape { TakesTape (R.remaining tape.old) (R.remaining tape.new) }
 {
     let image = tape_from(tape)?;
-    let options = run_of(typist.options());
+    let plan = RunPlan {
+        image: &image,
+        options: run_of(typist.options()),
+        stops,
+        trace,
+        form,
+    };
     typist.begin();
-    run_scheduled(alloc, &image, typist, stops, last, options, form, out)
+    let Outputs {
+        report,
+        teletype,
+        punch,
+    } = out;
+    run_scheduled(alloc, &plan, typist, report, teletype, punch)
 }

@@ -1,18 +1,14 @@
 //! The trace of a run: a line for each instruction that was carried out.
 
-ghost use Rattle.std.specs.Prelude.{◌≡◌, ◌+◌, ◌≤◌, ◌++◌, false, codes, is_err, length, OnOk, OnErr};
-ghost use Rattle.std.specs.Io.KnownBytes.{Appends};
-ghost use Rattle.streams.specs.Bytes.{AppendsFront};
+ghost use Rattle.std.specs.Prelude.{◌≡◌, ◌+◌, ◌≤◌, ◌++◌, codes, length};
 ghost use Rattle.word12.specs.Words.{octal_text};
 ghost use Rattle.processor.specs.Steps.{state_of};
 ghost use Rattle.command_parts.specs.LinkText.{link_text};
-ghost use Rattle.machine_commands.specs.Trace.{effect_text, line_of, mq_text, place_text, trace_line};
+ghost use Rattle.machine_commands.specs.Trace.{effect_text, mq_text, place_text, trace_line};
 
 use arrayvec::ArrayString;
 use instruct::{Profile, name};
-use peripherals::Seen;
 use processor::Cpu;
-use streams::{ByteSink, Failed, put};
 use word12::{Link, Word};
 
 /// Adds the four octal digits of a word.
@@ -75,8 +71,9 @@ fn push_effect(line: &mut ArrayString<80>, cpu: &Cpu)
     push_mq(line, cpu.profile, cpu.mq);
 }
 
-/// Adds the line of an instruction.
-fn push_line(line: &mut ArrayString<80>, at: Word, word: Word, cpu: &Cpu)
+/// Adds the line of an instruction: its address, word and name before it, and the accumulator, the link and on an 8/E the MQ
+/// register after it.
+pub(crate) fn push_line(line: &mut ArrayString<80>, at: Word, word: Word, cpu: &Cpu)
     requires { length line.old.bytes ≡ 0 }
     ensures { line.new.bytes ≡
         line.old.bytes ++ trace_line cpu.now.profile at word (state_of cpu.now) }
@@ -84,28 +81,4 @@ fn push_line(line: &mut ArrayString<80>, at: Word, word: Word, cpu: &Cpu)
     push_place(line, at, word, cpu.profile);
     push_effect(line, cpu);
     line.push('\n');
-}
-
-/// Writes the line of an instruction: its address, word and name before it, and the accumulator,
-/// the link and on an 8/E the MQ register after it. Where no instruction was carried out there is no
-/// line.
-pub(crate) fn put_trace<W: ByteSink>(
-    out: &mut W,
-    seen: &Seen,
-    at: Word,
-    word: Word,
-    cpu: &Cpu,
-) -> Result<(), Failed>
-    requires unmarked { W.mark out.old ≡ false }
-    ensures whole { OnOk result (Appends (W.taken out.old) (W.taken out.new)
-        (line_of cpu.now.profile seen.now at word (state_of cpu.now))) }
-    ensures front { OnErr result (AppendsFront (W.taken out.old) (W.taken out.new)
-        (line_of cpu.now.profile seen.now at word (state_of cpu.now))) }
-    ensures marks { W.mark out.new ≡ is_err result }
-{
-    let mut line = ArrayString::new();
-    if matches!(seen, Seen::Ran | Seen::Halted) {
-        push_line(&mut line, at, word, cpu);
-    }
-    put(out, line.as_str().as_bytes())
 }

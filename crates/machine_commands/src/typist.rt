@@ -9,8 +9,7 @@ ghost use Rattle.instruct.specs.declared.devices.DeviceOperation.TheVariants.{Sk
 ghost use Rattle.peripherals.specs.Devices.{word_at_pc};
 ghost use Rattle.peripherals.specs.Operator.{first_due, round_due, struck_as};
 ghost use Rattle.peripherals.specs.declared.Event.TheVariants.{PunchDone};
-ghost use Rattle.peripherals.specs.Events.{completed};
-ghost use Rattle.peripherals.specs.World.{view, profile_of};
+ghost use Rattle.peripherals.specs.World.{view};
 ghost use Rattle.machine_commands.specs.Typing.{asked_after, asks, typed_as};
 ghost use Rattle.machine_commands.specs.TypingParts.{Answered, Brought, IsLeft, rounds_left, source, typed_plan};
 
@@ -104,15 +103,6 @@ fn typed_as(byte: u8, manner: KeyOptions) -> u8
     } else {
         struck_as(byte, true)
     }
-}
-
-/// The printer and the punch get done.
-fn complete<A: Allocator>(world: &mut World<A>)
-    ensures done { view world.new ≡ completed (view world.old) }
-    ensures profile { profile_of world.new ≡ profile_of world.old }
-{
-    let _printed = world.apply(Event::PrinterDone);
-    let _punched = world.apply(Event::PunchDone);
 }
 
 impl<F, K> Typist<F, K> {
@@ -316,20 +306,20 @@ impl<F: ByteSource, K: ByteSource> Typist<F, K> {
 
 impl<F: ByteSource, K: ByteSource> Scheduler for Typist<F, K> {
     ghost use Rattle.std.specs.Prelude.{◌+◌, ◌*◌};
-    ghost use Rattle.machine_commands.specs.SessionParts.{has_stepped, rank};
+    ghost use Rattle.machine_commands.specs.SessionParts.{rank};
     ghost use Rattle.machine_commands.specs.TypingParts.{Types};
 
-    ghost brings = { λ t p w extent events. Types t.options t.asked t.rounds t.last
+    ghost brings = { λ t c w extent events. Types t.options t.asked t.rounds t.last
         (source (F.remaining t.reader) (F.ended t.reader))
-        (source (K.remaining t.keys) (K.ended t.keys)) p w extent events };
+        (source (K.remaining t.keys) (K.ended t.keys)) c w extent events };
+
+    ghost ends = { λ t. true };
 
     ghost events_to_come = { λ t. t.rounds * 5 + rank t.last };
 
     ghost steps_to_come = { λ t. t.rounds };
 
     ghost unread = { λ t. F.mark t.reader || K.mark t.keys };
-
-    ghost stepped = { λ t. has_stepped t.last };
 
     fn next_event<A: Allocator>(&mut self, world: &World<A>) -> Result<Option<Event>, Fault> {
         match self.due(world)? {
@@ -341,8 +331,8 @@ impl<F: ByteSource, K: ByteSource> Scheduler for Typist<F, K> {
         }
     }
 
-    fn complete_devices<A: Allocator>(&mut self, world: &mut World<A>) {
-        complete(world);
-        self.last = Some(Event::PunchDone);
+    #[inline(always)]
+    fn ends_at_halt(&self) -> bool {
+        true
     }
 }

@@ -1,32 +1,24 @@
 //! The lines that say what a step that violates a rule is about to do. They are tested and not proved.
 
-ghost use Rattle.std.specs.Prelude.{◌≡◌};
-ghost use Rattle.peripherals.specs.World.{profile_of};
-ghost use Rattle.declaration.specs.DeclarationInCode.{meaning};
-
 mod assertions;
 mod control;
 mod references;
 mod returns;
 
-use crate::shown_cells::first;
+use crate::driving::Machine;
+use crate::follow::Course;
+use crate::stopped_watch::run_quietly;
+use crate::watched::{ExecutedInstruction, WatchedMachine};
 use bin_tape::Image;
 use command_parts::message::{Message, MessageWriter, Written};
 use command_parts::sentence::Argument::{Address, Number, Text};
 use command_parts::sentence::push_sentence;
 use declaration::Declaration;
-use peripherals::{Event, NoMemory, Start};
-use policy::{Call, Rule, Watcher};
+use peripherals::{Event, NoMemory};
+use policy::{Call, Rule};
 use processor::{Cpu, DecodedInstruction};
 use std::alloc::Allocator;
 use word12::Word;
-
-/// An instruction that was carried out: its address and its word.
-#[derive(Clone, Copy)]
-struct ExecutedInstruction {
-    at: Word,
-    word: Word,
-}
 
 /// A step that violates a rule, before it is carried out.
 #[derive(Drop)]
@@ -114,28 +106,20 @@ impl<D: Allocator> ViolatingStep<'_, D> {
     }
 }
 
-/// Takes the events of a watched run one after the other, up to a step that violates a rule. Tells which instruction was
-/// carried out last.
-fn replay<A: Allocator, D: Allocator>(
-    watcher: &mut Watcher<A>,
+/// Adds what the step of a watched machine is about to do that violates this rule.
+pub(crate) fn push_violation<L: MessageWriter, A: Allocator, D: Allocator>(
+    text: &mut L,
+    machine: &WatchedMachine<'_, A, D>,
     declaration: &Declaration<D>,
-    events: &[Event],
-) -> Result<Option<ExecutedInstruction>, NoMemory>
-    requires { profile_of watcher.old.world ≡ (meaning declaration.now).profile }
-{
-    let mut executed = None;
-    for event in events {
-        let world = watcher.world();
-        if matches!(event, Event::Step) && world.halted_at().is_none() {
-            let at = world.cpu().pc;
-            let word = world.cpu().memory.get(at);
-            executed = Some(ExecutedInstruction { at, word });
-        }
-        if watcher.next(declaration, *event)?.is_some() {
-            break;
-        }
-    }
-    Ok(executed)
+    rule: Rule,
+) -> Written {
+    let step = ViolatingStep {
+        declaration,
+        cpu: machine.world().cpu(),
+        last: machine.last_call(),
+        executed: machine.executed(),
+    };
+    step.push(text, rule)
 }
 
 /// The lines below the verdict on a watched run of which this event is the first step that is not legal: what it is about
@@ -152,15 +136,10 @@ pub fn violation_lines<A: Allocator + Copy, D: Allocator>(
     event: usize,
     rule: Rule,
 ) -> Result<Message<A>, NoMemory> {
-    let mut watcher = Watcher::new(alloc, image, declaration, &Start::zero());
-    let executed = replay(&mut watcher, declaration, first(events, event))?;
-    let step = ViolatingStep {
-        declaration,
-        cpu: watcher.world().cpu(),
-        last: watcher.calls().last().copied(),
-        executed,
-    };
+    let mut machine = WatchedMachine::new(alloc, image, declaration);
+    let course = Course::Listed(&events[..event.min(events.len())]);
+    run_quietly(alloc, &mut machine, course)?;
     let mut text = Message::new(alloc);
-    step.push(&mut text, rule)?;
+    push_violation(&mut text, &machine, declaration, rule)?;
     Ok(text)
 }

@@ -1,6 +1,6 @@
 //! The command that watches a run.
 
-ghost use Rattle.std.specs.Prelude.{◌≡◌, None, false, IfOk, IfErr};
+ghost use Rattle.std.specs.Prelude.{◌≡◌, false, IfOk, IfErr};
 ghost use Rattle.wordset.specs.Lanes.{words};
 ghost use Rattle.declaration.specs.DeclarationInCode.{meaning};
 ghost use Rattle.command_parts.specs.Answers.{IsLaterFault, IsMemoryFault, OfRun, ReadsRun, WritesAnswer, output};
@@ -8,8 +8,8 @@ ghost use Rattle.command_parts.specs.Faults.{fails_to_write};
 ghost use Rattle.command_parts.specs.Inputs.{input};
 ghost use Rattle.machine_commands.specs.Continued.{IsWatchText};
 
-use crate::progress::offered_by;
-use crate::stopped_watch::{WatchOptions, watch_of};
+use crate::running::SHORT_TRACE;
+use crate::stopped_watch::{WatchOptions, watch_message_to_stop};
 use crate::stopping::no_stops;
 use command_parts::outcome::{CommandResult, deliver};
 use command_parts::programs::{ProgramRun, program_run_from};
@@ -34,20 +34,11 @@ fn watched_run<A: Allocator + Copy>(
     let stops = no_stops();
     let telling = WatchOptions {
         stops: &stops,
-        last: None,
+        trace: SHORT_TRACE,
         explained,
         show,
     };
-    let offered = offered_by(&run.events);
-    let seen = watch_of(
-        alloc,
-        image,
-        declaration,
-        &run.events,
-        offered,
-        None,
-        &telling,
-    )?;
+    let seen = watch_message_to_stop(alloc, image, declaration, &run.events, &telling)?;
     let mut text = seen.lines;
     text.extend_from_slice(seen.details.as_bytes())?;
     Ok(CommandResult {

@@ -83,11 +83,17 @@ fn carry_out_machine_task<R: Files + Input + Print + Eprint>(
             run_on(rt, alloc, &run_of(run, &places), &mut frames, &statements)
         }
         MachineTask::Session(session) => {
-            hold_session_on(rt, alloc, &session_of(session, &places), &mut frames)
+            let profile = session.options.run.profile;
+            let statements = SourceStatements { source, profile };
+            let session = session_of(session, &places);
+            hold_session_on(rt, alloc, &session, &statements, &mut frames)
         }
         MachineTask::Teletype(session) => {
+            let profile = session.options.profile;
+            let statements = SourceStatements { source, profile };
             let session = teletype_of(session, &places);
-            hold_teletype_session_on(rt, alloc, &session, at_terminal, &mut frames)
+            let frames = &mut frames;
+            hold_teletype_session_on(rt, alloc, &session, &statements, at_terminal, frames)
         }
         MachineTask::Dump(dump) => {
             let image = source.numbered.map.image();

@@ -3,7 +3,7 @@
 ghost use Rattle.std.specs.Prelude.{◌≡◌, false};
 
 use crate::files::{open_input, write_fault};
-use crate::of_machine::places::stops_of;
+use crate::of_machine::places::{stops_of, trace_options};
 use crate::replacing::ResultFile;
 use crate::standard_error::{NullSink, open_input_if, report_to, tell_to};
 use command_line::{Interrupt, Session, TeletypeSession};
@@ -12,6 +12,7 @@ use command_parts::status::{Fault, Status};
 use command_parts::visible::visible_text;
 use either::Either;
 use machine_commands::interrupted::{InterruptibleKeys, OperatorPresence};
+use machine_commands::long_trace::{MnemonicStatements, Statements};
 use machine_commands::session::{Outputs, run_session};
 use machine_commands::teletype::{Typist, teletype};
 use std::alloc::{AllocError, Global};
@@ -87,10 +88,17 @@ fn form_with<'n>(form: SummaryForm<'_>, name: &'n Option<String>) -> SummaryForm
 }
 
 /// Runs the tape of these frames with an operator who has these frames for the reader and these keys.
-fn hold_session_with<R: Files + Print + Eprint, S: ByteSource, F: ByteSource, K: ByteSource>(
+fn hold_session_with<
+    R: Files + Print + Eprint,
+    S: ByteSource,
+    F: ByteSource,
+    K: ByteSource,
+    N: Statements,
+>(
     rt: &R,
     alloc: Global,
     session: &Session<'_>,
+    statements: &N,
     frames: &mut S,
     reader: &mut F,
     keys: &mut K,
@@ -116,7 +124,7 @@ fn hold_session_with<R: Files + Print + Eprint, S: ByteSource, F: ByteSource, K:
         keys,
         session.options,
         &stopping.stops,
-        stopping.last,
+        trace_options(statements, false, stopping.last),
         form,
         &mut outputs,
     );
@@ -130,17 +138,26 @@ fn hold_session_with<R: Files + Print + Eprint, S: ByteSource, F: ByteSource, K:
 ///
 /// As for `run_session`, and `Device` if a file cannot be opened or created.
 #[inline(never)]
-pub(crate) fn hold_session_on<R: Files + Input + Print + Eprint, S: ByteSource>(
+pub(crate) fn hold_session_on<R: Files + Input + Print + Eprint, S: ByteSource, N: Statements>(
     rt: &R,
     alloc: Global,
     session: &Session<'_>,
+    statements: &N,
     frames: &mut S,
 ) -> Result<Status, Fault>
     requires { S.mark frames.old ≡ false }
 {
     let mut reader = open_input_if(rt, session.joined.reader)?;
     let mut keys = open_input_if(rt, session.joined.keys)?;
-    hold_session_with(rt, alloc, session, frames, &mut reader, &mut keys)
+    hold_session_with(
+        rt,
+        alloc,
+        session,
+        statements,
+        frames,
+        &mut reader,
+        &mut keys,
+    )
 }
 
 /// Runs the tape in a file with an operator. The tape is opened first.
@@ -155,7 +172,14 @@ pub fn hold_session<R: Files + Input + Print + Eprint>(
     session: &Session<'_>,
 ) -> Result<Status, Fault> {
     let mut frames = open_input(rt, session.tape.unwrap_or("-"))?;
-    hold_session_on(rt, alloc, session, &mut frames)
+    let profile = session.options.run.profile;
+    hold_session_on(
+        rt,
+        alloc,
+        session,
+        &MnemonicStatements { profile },
+        &mut frames,
+    )
 }
 
 /// The key that interrupts a session at a terminal if no other key is requested: ^E.
@@ -194,10 +218,12 @@ fn hold_typed<
     S: ByteSource,
     F: ByteSource + Drop,
     K: ByteSource + OperatorPresence + Drop,
+    N: Statements,
 >(
     rt: &R,
     alloc: Global,
     session: &TeletypeSession<'_>,
+    statements: &N,
     frames: &mut S,
     reader: F,
     keys: K,
@@ -216,8 +242,9 @@ fn hold_typed<
     };
     let mut typist = Typist::new(reader, keys, session.options);
     let stopping = stops_of(&session.stopping);
-    let (stops, last) = (&stopping.stops, stopping.last);
-    let answer = teletype(alloc, frames, &mut typist, stops, last, form, &mut outputs);
+    let trace = trace_options(statements, false, stopping.last);
+    let stops = &stopping.stops;
+    let answer = teletype(alloc, frames, &mut typist, stops, trace, form, &mut outputs);
     finish_punch(&mut punch, answer)
 }
 
@@ -229,10 +256,15 @@ fn hold_typed<
 ///
 /// As for `teletype`, and `Device` if a file cannot be opened or created.
 #[inline(never)]
-pub(crate) fn hold_teletype_session_on<R: Files + Input + Print + Eprint, S: ByteSource>(
+pub(crate) fn hold_teletype_session_on<
+    R: Files + Input + Print + Eprint,
+    S: ByteSource,
+    N: Statements,
+>(
     rt: &R,
     alloc: Global,
     session: &TeletypeSession<'_>,
+    statements: &N,
     at_terminal: bool,
     frames: &mut S,
 ) -> Result<Status, Fault>
@@ -245,10 +277,10 @@ pub(crate) fn hold_teletype_session_on<R: Files + Input + Print + Eprint, S: Byt
     let reader = open_input_if(rt, session.reader)?;
     let keys = StdReader::new(rt.reader());
     match key {
-        None => hold_typed(rt, alloc, session, frames, reader, keys),
+        None => hold_typed(rt, alloc, session, statements, frames, reader, keys),
         Some(_) => {
             let keys = InterruptibleKeys::new(keys, key);
-            hold_typed(rt, alloc, session, frames, reader, keys)
+            hold_typed(rt, alloc, session, statements, frames, reader, keys)
         }
     }
 }
@@ -266,5 +298,7 @@ pub fn hold_teletype_session<R: Files + Input + Print + Eprint>(
     at_terminal: bool,
 ) -> Result<Status, Fault> {
     let mut frames = open_input(rt, session.tape.unwrap_or("-"))?;
-    hold_teletype_session_on(rt, alloc, session, at_terminal, &mut frames)
+    let profile = session.options.profile;
+    let statements = MnemonicStatements { profile };
+    hold_teletype_session_on(rt, alloc, session, &statements, at_terminal, &mut frames)
 }

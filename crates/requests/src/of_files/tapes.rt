@@ -3,16 +3,17 @@
 ghost use Rattle.std.specs.Prelude.{◌≡◌, false};
 
 use crate::files::{finish, open_input, open_output};
-use crate::of_machine::places::stops_of;
+use crate::of_machine::places::{stops_of, trace_options};
 use crate::of_machine::words::words_of;
 use crate::standard_error::open_input_if;
 use crate::telling::tell_lines;
 use bin_tape::Image;
 use command_line::{DumpRequest, RunRequest, SourceRequest, StopOptions};
 use command_parts::inputs::{events_from, tape_from};
+use command_parts::options::RunOptions;
 use command_parts::status::{Fault, Status};
 use machine_commands::follow::Course;
-use machine_commands::long_trace::{MnemonicStatements, Statements, run_with_long_trace};
+use machine_commands::long_trace::{MnemonicStatements, Statements};
 use machine_commands::running::{dump, run, run_events};
 use machine_commands::stopping::run_with_stops;
 use source_commands::sourcing::{declared_source, source};
@@ -53,13 +54,14 @@ fn run_course<R: Print, N: Statements>(
     course: &Course<'_>,
     statements: &N,
 ) -> Result<Status, Fault> {
-    let options = &request.options;
     let StopOptions { stops, last } = stops_of(&request.stopping);
+    let options = RunOptions {
+        trace: request.options.trace || request.long,
+        ..request.options
+    };
+    let trace = trace_options(statements, request.long, last);
     let mut out = StdWriter::new(io::writer(rt));
-    if request.long {
-        return run_with_long_trace(alloc, image, options, &stops, course, statements, &mut out);
-    }
-    run_with_stops(alloc, image, options, &stops, last, course, &mut out)
+    run_with_stops(alloc, image, &options, &stops, trace, course, &mut out)
 }
 
 /// Runs the tape of these frames, in rounds or with the events of a file, until it is stopped, and shows its last

@@ -2,7 +2,8 @@
 
 use command_line::{AddressReader, Misuse, PlaceOptions, StopOptions};
 use labels::address::{Cells, cells_of};
-use machine_commands::stopping::no_stops;
+use machine_commands::long_trace::Statements;
+use machine_commands::stopping::{TraceOptions, no_stops};
 use pal_acts::SymbolTable;
 use std::alloc::Global;
 use word12::Word;
@@ -64,5 +65,19 @@ pub(crate) fn stops_of(stopping: &Option<StopOptions>) -> StopOptions {
             last: None,
         },
         Some(stopping) => *stopping,
+    }
+}
+
+/// How the instructions of a run are shown: in long lines if these are requested, and the last ones also if these
+/// statements say more.
+pub(crate) fn trace_options<N: Statements>(
+    statements: &N,
+    is_long: bool,
+    last: Option<u32>,
+) -> TraceOptions<'_, N> {
+    let is_named = last.is_some() && statements.says_more();
+    TraceOptions {
+        last,
+        statements: (is_long || is_named).then_some(statements),
     }
 }

@@ -73,6 +73,10 @@ fn without_tag(note: SourceNote<'_>) -> &[u8] {
 }
 
 impl Statements for SourceStatements<'_> {
+    fn says_more(&self) -> bool {
+        true
+    }
+
     fn push_statement<A: Allocator>(
         &self,
         line: &mut Vec<u8, A>,

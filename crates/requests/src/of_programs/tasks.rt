@@ -4,7 +4,8 @@ ghost use Rattle.std.specs.Prelude.{◌≡◌, false};
 
 use crate::files::{finish, open_input, open_output};
 use crate::named_files::NamedFiles;
-use crate::of_machine::places::{ResolvedPlaces, resolve_places, stops_of};
+use crate::of_machine::places::{ResolvedPlaces, resolve_places, stops_of, trace_options};
+use crate::of_machine::words::SourceStatements;
 use crate::of_programs::open::OpenProgram;
 use crate::of_sources::assembled::AssembledSource;
 use crate::of_sources::proposed::report_proposed_declaration;
@@ -13,18 +14,22 @@ use crate::saving::print_and_save;
 use crate::standard_error::open_input_if;
 use crate::stuck::answer_details;
 use crate::telling::tell_misuse;
+use bin_tape::Image;
 use command_line::{Destination, Misuse, SaveOptions, StopOptions, Task, WatchedSession};
 use command_parts::inputs::{bytes_from, events_from};
 use command_parts::message::Message;
-use command_parts::options::VerifyOptions;
+use command_parts::options::{SessionOptions, VerifyOptions};
 use command_parts::outcome::{CommandResult, deliver};
 use command_parts::programs::ProgramWithDeclaration;
 use command_parts::status::{Fault, Status};
+use declaration::Declaration;
 use diagnostics::verdicts::certificates::{ProgramWithCertificate, certificate_from};
 use diagnostics::verdicts::messages::check_message;
+use machine_commands::long_trace::{MnemonicStatements, Statements};
 use machine_commands::stopped_watch::{
     WatchOptions, watch_message_to_stop, watch_session_message_to_stop,
 };
+use peripherals::Event;
 use reports::reporting::{ReportForm, report_of};
 use search_commands::checking::verdict_of;
 use search_commands::messages::{verify_message, verify_proposed_message};
@@ -34,20 +39,6 @@ use std::rt::Files;
 use streams::standard::StdWriter;
 use streams::{ByteSource, put};
 use wordset::WordSet;
-
-/// The options for watching a run.
-fn watch_options<'s>(
-    stopping: &'s StopOptions,
-    explained: bool,
-    show: &'s WordSet,
-) -> WatchOptions<'s> {
-    WatchOptions {
-        stops: &stopping.stops,
-        last: stopping.last,
-        explained,
-        show,
-    }
-}
 
 impl<R: Files + Input + Print + Eprint, I: Read + Drop> OpenProgram<'_, '_, R, I> {
     /// Writes the line of an answer and the details below it to standard output, the details with what the source, if
@@ -210,12 +201,40 @@ impl<R: Files + Input + Print + Eprint, I: Read + Drop> OpenProgram<'_, '_, R, I
     ) -> Result<Status, Fault>
         requires { E.mark list.old ≡ false }
     {
-        let (alloc, explained) = (self.alloc, self.request.explained);
+        let alloc = self.alloc;
         let ProgramWithDeclaration { image, declaration } = self.read()?;
         let events = events_from(alloc, list)?;
+        let (profile, given) = (declaration.profile(), (&image, &declaration));
+        match self.source {
+            None => {
+                let statements = MnemonicStatements { profile };
+                self.tell_list(given, &events, places, &statements)
+            }
+            Some(source) => {
+                let statements = SourceStatements { source, profile };
+                self.tell_list(given, &events, places, &statements)
+            }
+        }
+    }
+
+    /// Writes what is seen of the run of these events, whose instructions read so.
+    fn tell_list<N: Statements>(
+        &self,
+        given: (&Image, &Declaration<Global>),
+        events: &[Event],
+        places: &ResolvedPlaces,
+        statements: &N,
+    ) -> Result<Status, Fault> {
+        let (image, declaration) = given;
+        let explained = self.request.explained;
         let stopping = stops_of(&places.stopping);
-        let options = watch_options(&stopping, explained, &places.show);
-        let run = watch_message_to_stop(alloc, &image, &declaration, &events, &options)?;
+        let options = WatchOptions {
+            stops: &stopping.stops,
+            trace: trace_options(statements, false, stopping.last),
+            explained,
+            show: &places.show,
+        };
+        let run = watch_message_to_stop(self.alloc, image, declaration, events, &options)?;
         self.print(self.labels(explained), &run.lines, &run.details)?;
         Ok(run.status)
     }
@@ -235,16 +254,48 @@ impl<R: Files + Input + Print + Eprint, I: Read + Drop> OpenProgram<'_, '_, R, I
         let ProgramWithDeclaration { image, declaration } = self.read()?;
         let frames = bytes_from(alloc, &mut reader, options.run.rounds)?;
         let struck = bytes_from(alloc, &mut keys, options.run.rounds)?;
+        let profile = declaration.profile();
+        let given = (&image, &declaration);
+        let input = (frames.as_slice(), struck.as_slice());
+        match self.source {
+            None => {
+                let statements = MnemonicStatements { profile };
+                self.tell_session(given, input, &options, session, &places, &statements)
+            }
+            Some(source) => {
+                let statements = SourceStatements { source, profile };
+                self.tell_session(given, input, &options, session, &places, &statements)
+            }
+        }
+    }
+
+    /// Writes what is seen of a run with an operator, by these frames and keys, whose instructions read so.
+    fn tell_session<N: Statements>(
+        &self,
+        given: (&Image, &Declaration<Global>),
+        input: (&[u8], &[u8]),
+        options: &SessionOptions,
+        session: &WatchedSession<'_>,
+        places: &ResolvedPlaces,
+        statements: &N,
+    ) -> Result<Status, Fault> {
+        let (image, declaration) = given;
+        let (frames, keys) = input;
         let stopping = stops_of(&places.stopping);
         let run = watch_session_message_to_stop(
-            alloc,
-            &image,
-            &declaration,
-            &frames,
-            &struck,
-            &options,
+            self.alloc,
+            image,
+            declaration,
+            frames,
+            keys,
+            options,
             session.continues,
-            &watch_options(&stopping, session.explained, &places.show),
+            &WatchOptions {
+                stops: &stopping.stops,
+                trace: trace_options(statements, false, stopping.last),
+                explained: session.explained,
+                show: &places.show,
+            },
         )?;
         self.print(self.labels(session.explained), &run.lines, &run.details)?;
         Ok(run.status)

@@ -2,7 +2,7 @@ use Rattle.std.proofs.Common.{◌∙◌, sym, None, refl}
 use Rattle.peripherals.specs.World.{view}
 use Rattle.machine_commands.specs.Schedule.{Over}
 use Rattle.machine_commands.specs.SessionParts.{place_of}
-use Rattle.machine_commands.proofs.SessionLemmas.{ok_is, some_counts, some_fewer, some_next, some_stepped, some_to_step}
+use Rattle.machine_commands.proofs.SessionLemmas.{ok_is, some_counts, some_fewer, some_next, some_to_step}
 use Rattle.machine_commands.proofs.schedule.OperatorScheduler.next_event.Goals as goal
 
 pub returns-clause-over : goal.returns-clause-over
@@ -19,6 +19,3 @@ returns-clause-fewer g c = some_fewer c.next.result c.args.self.now c.next.new.s
 
 pub returns-clause-steps : goal.returns-clause-steps
 returns-clause-steps g c = some_counts c.next.result c.args.self.now c.next.new.self (view c.args.world.now) c.next.ensures.due c.next.ensures.left
-
-pub returns-clause-stepped : goal.returns-clause-stepped
-returns-clause-stepped g c = some_stepped c.next.result c.next.new.self.last c.next.ensures.last

@@ -78,8 +78,5 @@ returns-in-Some-clause-steps g c =
     let less : Less t.rounds t.last e = brought_less t.options (view c.args.world.now) t.asked t.rounds t.last reader keys reader_after keys_after e brought in
     rw (c.note.ensures, c.due.ensures.same) less.counted
 
-pub returns-in-Some-clause-stepped : goal.returns-in-Some-clause-stepped
-returns-in-Some-clause-stepped g c = λ step. rw (c.note.ensures, step) refl
-
 pub returns-in-Some-clause-marks : goal.returns-in-Some-clause-marks
 returns-in-Some-clause-marks g c = rw c.note.ensures c.in_ok-event.ensures.marks

@@ -1,0 +1,30 @@
+-- What a machine that is watched knows of the events that it took. Private contracts alone cite this.
+use Rattle.std.specs.Prelude.{ℕ, ◌≡◌, ◌+◌, ◌<◌, List, [], ◌++◌, length, None}
+use Rattle.processor.specs.Runs.{Image}
+use Rattle.peripherals.specs.declared.Event.{Event}
+use Rattle.peripherals.specs.Devices.{WorldState}
+use Rattle.declaration.specs.Declaration.{Declaration}
+use Rattle.policy.specs.Calls.{Calls}
+use Rattle.policy.specs.Rules.{KeepsCode}
+use Rattle.policy.specs.Runs.{DeclaredEvents}
+use Rattle.policy.specs.Watching.{IsCleanBefore, IsLeastBroken}
+use Rattle.policy.specs.declared.rules.Rule.{Rule}
+use Rattle.machine_commands.specs.Continued.{presses}
+use Rattle.machine_commands.specs.declared.watched.Progress.{Progress}
+
+-- These events of a declared run lead from w, with no call open, to x, and each enabled step among them is legal, if fixed code is as the tape
+-- has it, whatever comes after them.
+pub record LedLegally (d : Declaration) (events : List Event) (w x : WorldState) (ks : Calls) : Type 0 where
+  pub run : DeclaredEvents d events w [] x ks
+  pub code : (image : Image) → KeepsCode image d w.state.memory → KeepsCode image d x.state.memory
+  pub clean : (image : Image) → KeepsCode image d w.state.memory → (rest : List Event) → IsCleanBefore image d (events ++ rest) w (length events)
+
+-- So many events came, and so many of them are CONTINUE, beside those before, as long as these are small numbers.
+pub record Counted (events : List Event) (before after : Progress) : Type 0 where
+  pub all : before.events + length events < 18446744073709551616 → after.events ≡ before.events + length events
+  pub presses : before.presses + presses events < 18446744073709551616 → after.presses ≡ before.presses + presses events
+
+-- The next step of a machine that runs violates this rule and none of lesser numbers, if fixed code is as the tape has it.
+pub record Breaks (d : Declaration) (w : WorldState) (ks : Calls) (r : Rule) : Type 0 where
+  pub runs : w.halted_at ≡ None
+  pub broken : (image : Image) → KeepsCode image d w.state.memory → IsLeastBroken image d w.state ks r

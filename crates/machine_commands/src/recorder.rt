@@ -1,0 +1,174 @@
+//! The lines of the instructions of a run: all of them as they come, and the last ones when it is over.
+
+ghost use Rattle.std.specs.Prelude.{ℕ, ◌≡◌, ◌++◌, [], ◌∷◌, List, Option, false, IfErr, IfOk, OnOk};
+ghost use Rattle.std.specs.Io.KnownBytes.{Appends};
+ghost use Rattle.processor.specs.Steps.{state_of};
+ghost use Rattle.peripherals.specs.declared.Event.{Event};
+ghost use Rattle.peripherals.specs.declared.Seen.{Seen};
+ghost use Rattle.policy.specs.declared.rules.Rule.{Rule};
+ghost use Rattle.command_parts.specs.Faults.{IsRunFault, fails_to_write};
+ghost use Rattle.machine_commands.specs.Driving.{IsTaken, IsWhole, KeepsIf, Recorded, SameOptions, most_of, trace_taken};
+ghost use Rattle.machine_commands.specs.Last.{last_of};
+ghost use Rattle.machine_commands.specs.Trace.{trace_line, traced};
+
+use crate::driving::{Machine, Taken};
+use crate::last::LastLines;
+use crate::long_trace::{NextInstruction, Statements, instruction_at, line_of};
+use crate::trace::push_line;
+use arrayvec::ArrayString;
+use command_parts::status::Fault;
+use peripherals::{Event, Seen};
+use processor::Cpu;
+use std::alloc::{AllocError, Allocator};
+use streams::{ByteSink, put};
+
+/// What is shown of the instructions of a run, beside a trace of all of them.
+#[derive(Clone, Copy)]
+pub struct TraceOptions<'n, N> {
+    /// How many of the last instructions are shown when it is over, if that is requested.
+    pub last: Option<u32>,
+    /// Says how instructions read in long lines; the lines are short without it.
+    pub statements: Option<&'n N>,
+}
+
+/// Takes down the lines of the instructions that are carried out.
+#[derive(Drop)]
+pub(crate) struct Recorder<'n, N, A: Allocator> {
+    alloc: A,
+    /// Each line is written as it comes.
+    trace: bool,
+    /// Says how instructions read in long lines; the lines are short without it.
+    statements: Option<&'n N>,
+    /// The last lines, if they are requested.
+    last: Option<LastLines<A>>,
+}
+
+impl<'n, N, A: Allocator + Copy> Recorder<'n, N, A> {
+    /// Takes down all lines, or the last ones, or none.
+    pub(crate) fn new(alloc: A, trace: bool, options: &TraceOptions<'n, N>) -> Recorder<'n, N, A>
+        ensures trace { result.trace ≡ trace }
+        ensures statements { result.statements ≡ options.now.statements }
+        ensures most { most_of result.last ≡ options.now.last }
+        ensures none { KeepsIf result.last [] }
+    {
+        Recorder {
+            alloc,
+            trace,
+            statements: options.statements,
+            last: match options.last {
+                Some(most) => Some(LastLines::new(alloc, most)),
+                None => None,
+            },
+        }
+    }
+
+    /// The last lines that are requested.
+    pub(crate) fn last_lines(&self) -> Result<Vec<u8, A>, AllocError>
+        ensures { IfOk result (λ text. (lines : List ℕ) → KeepsIf self.now.last lines →
+            text.items ≡ last_of (most_of self.now.last) lines) }
+    {
+        match &self.last {
+            Some(last) => last.text(self.alloc),
+            None => Ok(Vec::new(self.alloc)),
+        }
+    }
+
+    /// Whether no line is requested.
+    #[inline(always)]
+    fn is_quiet(&self) -> bool {
+        !self.trace && self.last.is_none()
+    }
+
+    /// Keeps a line, and writes it, as requested.
+    fn put<W: ByteSink>(&mut self, line: &[u8], out: &mut W) -> Result<(), Fault>
+        requires { W.mark out.old ≡ false }
+        ensures wrote { OnOk result (Appends (W.taken out.old) (W.taken out.new)
+            (traced self.old.trace line.now)) }
+        ensures kept { OnOk result ((lines : List ℕ) → IsWhole line.now → KeepsIf self.old.last lines →
+            KeepsIf self.new.last (lines ++ line.now)) }
+        ensures same { SameOptions self.old self.new }
+        ensures faults { IfErr result IsRunFault }
+        ensures marks { W.mark out.new ≡ fails_to_write result }
+        ensures silent { self.old.trace ≡ false → out.new ≡ out.old }
+    {
+        if let Some(last) = &mut self.last {
+            last.add(line)?;
+        }
+        if self.trace {
+            put(out, line)?;
+        }
+        Ok(())
+    }
+}
+
+impl<N: Statements, A: Allocator + Copy> Recorder<'_, N, A> {
+    /// Takes down an instruction that was carried out.
+    fn record<W: ByteSink>(
+        &mut self,
+        next: &NextInstruction,
+        cpu: &Cpu,
+        out: &mut W,
+    ) -> Result<(), Fault>
+        requires { W.mark out.old ≡ false }
+        ensures recorded { OnOk result ((lines : List ℕ) (first : Option (List ℕ)) →
+            Recorded self.old lines first (W.taken out.old) → Recorded self.new
+            (lines ++ trace_line cpu.now.profile next.now.at next.now.word (state_of cpu.now))
+            first (W.taken out.new)) }
+        ensures same { SameOptions self.old self.new }
+        ensures faults { IfErr result IsRunFault }
+        ensures marks { W.mark out.new ≡ fails_to_write result }
+        ensures silent { self.old.trace ≡ false → out.new ≡ out.old }
+    {
+        match self.statements {
+            None => {
+                let mut line = ArrayString::new();
+                push_line(&mut line, next.at, next.word, cpu);
+                self.put(line.as_str().as_bytes(), out)
+            }
+            Some(statements) => {
+                let line = line_of(self.alloc, next, cpu, statements)?;
+                self.put(&line, out)
+            }
+        }
+    }
+}
+
+/// Takes one event, and takes down the instruction that it carried out.
+#[inline(always)]
+pub(crate) fn advance<A: Allocator, M: Machine<A>, N: Statements, K: Allocator + Copy, W: ByteSink>(
+    machine: &mut M,
+    recorder: &mut Recorder<'_, N, K>,
+    out: &mut W,
+    event: Event,
+) -> Result<Taken, Fault>
+    requires writable { W.mark out.old ≡ false }
+    requires fits { M.fits machine.old }
+    ensures taken { IfOk result (IsTaken (M.conduct machine.old) (M.state machine.old) event
+        (M.state machine.new) (M.breaks machine.new)) }
+    ensures known { IfOk result (λ taken. (first : M) (events : List Event) (seen : Seen) →
+        taken ≡ Taken.Saw seen → M.known first events machine.old →
+        M.known first (events ++ event ∷ []) machine.new) }
+    ensures unknown { IfOk result (λ taken. (first : M) (events : List Event) (rule : Rule) →
+        taken ≡ Taken.Breaks rule → M.known first events machine.old →
+        M.known first events machine.new) }
+    ensures conduct { M.conduct machine.new ≡ M.conduct machine.old }
+    ensures fits { M.fits machine.new }
+    ensures recorded { IfOk result (λ taken. (lines : List ℕ) (first : Option (List ℕ)) →
+        Recorded recorder.old lines first (W.taken out.old) → Recorded recorder.new
+        (lines ++ trace_taken (M.conduct machine.old) taken (M.state machine.old) (M.state machine.new))
+        first (W.taken out.new)) }
+    ensures same { SameOptions recorder.old recorder.new }
+    ensures faults { IfErr result IsRunFault }
+    ensures marks { W.mark out.new ≡ fails_to_write result }
+    ensures silent { recorder.old.trace ≡ false → out.new ≡ out.old }
+{
+    if recorder.is_quiet() {
+        return Ok(machine.take(event)?);
+    }
+    let next = instruction_at(machine.world().cpu(), recorder.statements.is_some());
+    let taken = machine.take(event)?;
+    if matches!(taken, Taken::Saw(Seen::Ran | Seen::Halted)) {
+        recorder.record(&next, machine.world().cpu(), out)?;
+    }
+    Ok(taken)
+}

@@ -74,7 +74,7 @@ pub record IsSummaryGiven (found : ArgMatches) (apart : Bool) (seen : Bool) (sum
 
 -- A run with an operator is of the tape, the frames and the keys that are given, punches where the option says, and is made as the
 -- options ask, and as the words for cells and places do. One at most of its inputs, to which the parts of a source belong, is standard
--- input, and none is the file for what is punched, which is not named like a source. No events are given, and no long trace is requested.
+-- input, and none is the file for what is punched, which is not named like a source. No events are given.
 pub record IsOperatedRunGiven (found : ArgMatches) (places : PlaceOptions) (session : Session) : Type 0 where
   pub tape : option_map (λ name. name.now) session.tape ≡ tape_given found
   pub reader : option_map (λ name. name.now) session.joined.reader ≡ value found (codes "reader")
@@ -83,7 +83,7 @@ pub record IsOperatedRunGiven (found : ArgMatches) (places : PlaceOptions) (sess
   pub apart : ForSome session.joined.punch (λ name. IsApart found operated_inputs name.now)
   pub unlike : ForSome session.joined.punch (λ name. is_source_name name.now ≡ false)
   pub events : has_value found (codes "events") ≡ false
-  pub long : IsFlagGiven found (codes "trace-long") false
+  pub long : IsFlagGiven found (codes "trace-long") session.long
   pub once : AreReadAtMost 1 found operated_inputs
   pub teletype : IsFlagGiven found (codes "teletype") session.joined.teletype
   pub options : AreSessionOptions found session.options

@@ -167,20 +167,10 @@ pub record IsWatchedWithOperator (found : ArgMatches) (is : Bool) : Type 0 where
   pub flag : IsFlagGiven found (codes "mark") mark
   pub any : is ≡ (list_any (has_value found) (codes "reader" ∷ codes "keys" ∷ codes "switches" ∷ codes "steps" ∷ codes "continue" ∷ []) || mark)
 
--- Whether a line, short or long, is written for each instruction.
-pub record IsTraced (found : ArgMatches) (is : Bool) : Type 0 where
-  pub trace : Bool
-  pub trace_is : IsFlagGiven found (codes "trace") trace
-  pub long : Bool
-  pub long_is : IsFlagGiven found (codes "trace-long") long
-  pub any : (trace || long) ≡ is
-
--- The cells and the places that options of a run name are the words that were given, and so is the number of last instructions, which is
--- given only where no line is written for each instruction.
+-- The cells and the places that options of a run name are the words that were given, and so is the number of last instructions.
 pub record ArePlacesGiven (found : ArgMatches) (places : PlaceOptions) : Type 0 where
   pub show : map (λ text. text.now) places.show.items ≡ values found (codes "show")
   pub until : option_map (λ text. text.now) places.until ≡ value found (codes "until")
   pub written : map (λ text. text.now) places.written.items ≡ values found (codes "until-write")
   pub read : map (λ text. text.now) places.read.items ≡ values found (codes "until-read")
   pub last : IsNumberNamed 1 1000000 (value found (codes "last")) places.last
-  pub alone : is_some places.last ≡ true → IsTraced found false

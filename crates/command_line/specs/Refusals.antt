@@ -25,7 +25,7 @@ use Rattle.command_line.specs.declared.program_command.ProgramCommand.TheVariant
 use Rattle.command_line.specs.CommandNames.{called_of}
 use Rattle.command_line.specs.Machines.{interrupt_named, migrated_version, version_with}
 use Rattle.command_line.specs.OctalPlaces.{NamesNoOctalCells, NamesNoOctalPlace, NamesOctalCells}
-use Rattle.command_line.specs.Options.{ArePlacesGiven, IsFlagGiven, IsRunWithOperator, IsTraced, IsWatchedWithOperator, has_value, is_declared, is_start_named, machine_given, named, sources_given, start_given, value, value_or, version_named}
+use Rattle.command_line.specs.Options.{ArePlacesGiven, IsFlagGiven, IsRunWithOperator, IsWatchedWithOperator, has_value, is_declared, is_start_named, machine_given, named, sources_given, start_given, value, value_or, version_named}
 use Rattle.command_line.specs.Outputs.{is_search, is_source_name, is_standard_input, is_taken, result_file, result_operand}
 use Rattle.command_line.specs.Places.{IsValueRefused}
 use Rattle.command_line.specs.Requests.{has_more_operands, last_name, takes_second}
@@ -129,8 +129,7 @@ IsOctalRefused which places = IsValueRefused NamesOctalCells NamesNoOctalCells N
 abbrev pub IsMisused : Misuse → ArgMatches → Type 0
 IsMisused (misuse.Place which) found = (sources_given found ≡ None) × (places : PlaceOptions) × ArePlacesGiven found places × IsOctalRefused which places
 IsMisused misuse.Last found = IsNumberRefused 1 1000000 (value found (codes "last"))
-IsMisused misuse.LastAndTrace found = (has_value found (codes "last") ≡ true) × IsTraced found true
-IsMisused misuse.LongTrace found = IsFlagGiven found (codes "trace-long") true × (IsFlagGiven found (codes "trace") true ⊎ IsRunWithOperator found true)
+IsMisused misuse.LongTrace found = IsFlagGiven found (codes "trace-long") true × IsFlagGiven found (codes "trace") true
 IsMisused misuse.EventsAndOperator found = (has_value found (codes "events") ≡ true) × IsRunWithOperator found true
 IsMisused misuse.ListAndOperator found = (has_value found (codes "EVENTS") ≡ true) × IsWatchedWithOperator found true
 IsMisused misuse.DeclarationAndStart found = (is_declared found ≡ true) × (is_start_named found ≡ true)

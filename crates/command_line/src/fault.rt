@@ -52,9 +52,7 @@ pub enum Misuse {
     PlaceOfSource(PlaceOption),
     /// The value of `--last` is not a number from 1 to 1,000,000.
     Last,
-    /// The last instructions are to be shown, and all of them too.
-    LastAndTrace,
-    /// A long line is to be written for each instruction, and a short one, or the run has an operator.
+    /// A long line is to be written for each instruction, and a short one.
     LongTrace,
     /// There are events, and an operator too.
     EventsAndOperator,
@@ -163,10 +161,7 @@ impl Misuse {
     /// What is said about arguments that cannot be combined, or of which one is missing.
     fn combination_text(&self) -> Option<&'static str> {
         Some(match self {
-            Misuse::LastAndTrace =>
-                "'--last' cannot be combined with '--trace' or '--trace-long', which write all instructions",
-            Misuse::LongTrace =>
-                "'--trace-long' cannot be combined with '--trace' or with the options for the reader, the punch, the teletype and the switches",
+            Misuse::LongTrace => "'--trace-long' cannot be combined with '--trace'",
             Misuse::EventsAndOperator =>
                 "'--events' cannot be combined with the options for the reader, the punch, the teletype and the switches",
             Misuse::ListAndOperator =>

@@ -35,6 +35,8 @@ pub struct Session<'a> {
     pub summary: SummaryForm<'a>,
     /// How the run is followed, if it may be stopped or its last instructions are requested.
     pub stopping: Option<StopOptions>,
+    /// Whether a long line is written for each instruction.
+    pub long: bool,
 }
 
 impl<'a> Session<'a> {
@@ -187,7 +189,8 @@ pub fn session_of<'a>(
     if has_value(found, "events") {
         return Err(CommandLineFault::Misuse(Misuse::EventsAndOperator));
     }
-    if is_given(found, "trace-long") {
+    let long = is_given(found, "trace-long");
+    if long && is_given(found, "trace") {
         return Err(CommandLineFault::Misuse(Misuse::LongTrace));
     }
     let inputs = read_once(alloc, found, &["source", "TAPE", "reader", "keys"])?;
@@ -212,6 +215,7 @@ pub fn session_of<'a>(
         options,
         summary,
         stopping,
+        long,
     })
 }
 

@@ -2,7 +2,7 @@
 
 ghost use Rattle.std.specs.Prelude.{◌≡◌, ◌==◌, Any, IfErr, IfOk, None, MatchOption, MatchResult, Some, codes, is_some, map, option_map, false, true};
 ghost use Rattle.std.specs.List.{position};
-ghost use Rattle.command_line.specs.Options.{ArePlacesGiven, IsNumberNamed, IsTraced, sources_given, value};
+ghost use Rattle.command_line.specs.Options.{ArePlacesGiven, IsNumberNamed, sources_given, value};
 ghost use Rattle.command_line.specs.Places.{AreCellsOf, AreCellsOfText, AreCellsOfTexts, AreCellsRefused, AreShownOn, AreStopsNamed, AreTextsRefused, IsFollowed, IsStoppedOn, IsUntilNamed, IsVisitRefused, is_followed};
 ghost use Rattle.command_line.specs.Refusals.{IsPlaceMisused, IsRefusedByAny};
 ghost use Rattle.command_line.specs.declared.fault.Misuse.TheVariants.{Place};
@@ -12,7 +12,7 @@ ghost use Rattle.streams.specs.TextLeft.{words_left};
 ghost use Rattle.wordset.specs.Lanes.{words};
 
 use crate::fault::{CommandLineFault, Misuse, PlaceOption};
-use crate::values::{is_given, values_of};
+use crate::values::values_of;
 use clap::ArgMatches;
 use command_parts::options::Stops;
 use std::alloc::Global;
@@ -305,25 +305,13 @@ pub struct StopOptions {
     pub last: Option<u32>,
 }
 
-/// Whether a line is written for each instruction.
-fn is_traced(found: &ArgMatches<'_>) -> bool
-    ensures { IsTraced found.now result }
-{
-    let trace = is_given(found, "trace");
-    let long = is_given(found, "trace-long");
-    trace || long
-}
-
 /// How many of the last instructions are shown, if that is requested.
 fn last_of(found: &ArgMatches<'_>) -> Result<Option<u32>, CommandLineFault>
     ensures last { IfOk result (IsNumberNamed 1 1000000 (value found.now (codes "last"))) }
-    ensures alone { IfOk result (λ last. is_some last ≡ true → IsTraced found.now false) }
     ensures refused { IfErr result (IsRefusedByAny found.now) }
 {
-    let is_traced = is_traced(found);
     match found.get_str("last") {
         None => Ok(None),
-        Some(_) if is_traced => Err(CommandLineFault::Misuse(Misuse::LastAndTrace)),
         Some(text) => match decimal_between(1, MOST_LAST, text.as_bytes()) {
             Some(most) => Ok(Some(most)),
             None => Err(CommandLineFault::Misuse(Misuse::Last)),

@@ -2,7 +2,7 @@
 use Rattle.std.proofs.Common.{ℕ, ◌≡◌, Bool, true, false, ◌||◌, List, [], ◌++◌, Option, Some, None, refl, sym, ◌∙◌, ap, subst}
 use Rattle.std.specs.Prelude.{IfSome, is_some}
 use Rattle.std.specs.Io.KnownBytes.{Appends}
-use Rattle.std.proofs.KnownBytes.{Appends-trans}
+use Rattle.std.proofs.KnownBytes.{Appends-nil, Appends-trans}
 use Rattle.streams.specs.Bytes.{AppendsFront}
 use Rattle.instruct.specs.declared.Profile.{Profile}
 use Rattle.peripherals.specs.declared.Event.{Event}
@@ -105,7 +105,25 @@ pub held_front : {N A : Type 0} (comes : Conduct → WorldState → Extent → L
     FrontOf (λ text. (printed : List ℕ) × (punched : List ℕ) × (status : Status) × IsHeldToStop comes h options stops shown form left image text printed punched status) old new
 held_front comes h options stops shown form left image p w x ran outcome r known last old mid new told_old told_new profile begins driven tells steps ends quiet same front = record {
   text = closing_behind last (words options.show) form outcome.end x outcome.steps;
-  is = (printed_in x, x.devices.punch.output, status_of outcome.end,
-      held_so comes h options stops shown form left image p w x ran outcome (status_of outcome.end) r known [] last old mid told_old told_new profile begins driven tells (traced_none shown.long options.trace driven.lines quiet) steps ends refl);
+  is = (
+    printed_in x,
+    x.devices.punch.output,
+    status_of outcome.end,
+    held_so comes h options stops shown form left image p w x ran outcome (status_of outcome.end) r known [] last old mid told_old told_new profile begins driven tells (traced_none shown.long options.trace driven.lines quiet) steps ends refl,
+  );
   front = rw same at front;
 }
+
+-- nothing is recorded at the beginning
+pub recorded_none : {N A : Type 0} (r : Recorder N A) (old : Option (List ℕ)) → KeepsIf r.last [] → Recorded r [] old old
+recorded_none r old none = record {
+  during = [];
+  is_traced = nothing_traced (is_some r.statements) r.trace;
+  wrote = Appends-nil old;
+  kept = λ short. none;
+}
+  where
+    nothing_traced : (long trace : Bool) → IsTraced long trace [] []
+    nothing_traced true trace = tt
+    nothing_traced false true = refl
+    nothing_traced false false = refl

@@ -100,6 +100,7 @@ held_cut : (options : RunOptions) (stops : Stops) (shown : Shown) (h : Bool) (es
 held_cut options stops shown h es image text printed punched status held = by_stop held.stopped refl
   where
     w = fresh image options.start
+
     by_stop : (stopped : Bool) → held.stopped ≡ stopped → IsRunWithStops options stops shown h es image text status
     by_stop true is =
         let come : listed h es (Usual options.profile) w ToStep (held.events ++ Step ∷ []) = rw is at held.come in
@@ -142,9 +143,9 @@ pub run_of_all : (options : RunOptions) (stops : Stops) (h : Bool) (es : List Ev
 run_of_all options stops h es image text status none run = elim run.is_cut [
   | inl k ↦ absurd (none_after stops options.profile h 0 es (fresh image options.start) k.0 none k.1)
   | inr k ↦ (let told = run.is in
-    let during = told.is_traced in
-    let last = told.is_last in
-    record { lines = told.lines; steps = told.steps; end = told.end; final = told.final; follows = rw k.1 at told.follows; text_is = rw (k.2, during, last) at told.text_is; status_is = rw k.2 at told.status_is })
+      let during = told.is_traced in
+      let last = told.is_last in
+      record { lines = told.lines; steps = told.steps; end = told.end; final = told.final; follows = rw k.1 at told.follows; text_is = rw (k.2, during, last) at told.text_is; status_is = rw k.2 at told.status_is })
 ]
 
 pub all_ok : (options : RunOptions) (stops : Stops) (h : Bool) (es : List Event) (image : List (Option ℕ)) (r : Result Status Fault) (old new : Option (List ℕ)) → AreNone stops →

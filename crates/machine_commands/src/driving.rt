@@ -1,6 +1,6 @@
 //! The loop that runs a machine.
 
-ghost use Rattle.std.specs.Prelude.{ℕ, ◌≡◌, ◌+◌, ◌≤◌, ◌<◌, ◌||◌, ◌%◌, ◌++◌, [], ◌∷◌, List, Option, false, drop, get_or, is_err, map, IfSome, IfOk, IfErr, OnOk};
+ghost use Rattle.std.specs.Prelude.{ℕ, ◌≡◌, ◌+◌, ◌≤◌, ◌<◌, ◌||◌, ◌%◌, ◌++◌, [], ◌∷◌, List, None, Option, false, drop, get_or, is_err, map, IfSome, IfOk, IfErr, OnOk};
 ghost use Rattle.std.specs.Io.KnownBytes.{Appends};
 ghost use Rattle.peripherals.specs.Devices.{WorldState};
 ghost use Rattle.peripherals.specs.World.{view, profile_of};
@@ -53,6 +53,7 @@ pub(crate) trait Machine<A: Allocator> {
 
     /// The machine and its devices.
     fn world(&self) -> &World<A>
+        requires { fits self.now }
         ensures state { view result.now ≡ state self.now }
         ensures profile { profile_of result.now ≡ profile_in (conduct self.now) };
 
@@ -130,7 +131,7 @@ pub(crate) struct DrivenRun {
 
 /// A run that ended so.
 fn ended(steps: u64, end: End) -> DrivenRun
-    ensures { result ≡ record { outcome = record { steps = steps; end = end }; broken = Option.None } }
+    ensures { result ≡ record { outcome = record { steps = steps; end = end }; broken = None } }
 {
     DrivenRun {
         outcome: RunOutcome { steps, end },
@@ -296,6 +297,7 @@ pub(crate) fn drive<
         (M.state machine.old) ran (M.state machine.new) (T.taken teletype.old) (T.taken teletype.new)) }
     ensures same { SameOptions recorder.old recorder.new }
     ensures conduct { M.conduct machine.new ≡ M.conduct machine.old }
+    ensures fits { M.fits machine.new }
     ensures faults { IfErr result IsHeldFault }
     ensures marks { W.mark report.new || T.mark teletype.new ≡ fails_to_write result }
     ensures reads { S.unread schedule.new ≡ fails_to_read result }

@@ -40,7 +40,6 @@ pub struct Outputs<W, T, P> {
 }
 
 /// How an image is run, and what is told of the run.
-#[derive(Clone, Copy)]
 pub(crate) struct RunPlan<'p, N> {
     pub(crate) image: &'p Image,
     pub(crate) options: RunOptions,

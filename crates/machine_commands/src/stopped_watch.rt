@@ -13,7 +13,7 @@ ghost use Rattle.machine_commands.specs.StoppedWatch.{IsListToStop, IsPlanToStop
 
 use crate::driving::{DrivenRun, Machine, Nowhere, drive};
 use crate::follow::{Course, End};
-use crate::long_trace::{MnemonicStatements, Statements};
+use crate::long_trace::Statements;
 use crate::messages::{RunMessage, watched_line, watched_status};
 use crate::progress::{AvailableInput, offered_by, push_progress};
 use crate::recorder::{Recorder, TraceOptions};
@@ -54,17 +54,17 @@ pub(crate) fn run_quietly<A: Allocator + Copy, D: Allocator>(
     machine: &mut WatchedMachine<'_, A, D>,
     course: Course<'_>,
 ) -> Result<(), NoMemory> {
-    let mut recorder = Recorder::<MnemonicStatements, A>::new(alloc, false, &SHORT_TRACE);
+    let mut recorder = Recorder::new(alloc, false, &SHORT_TRACE);
     let mut schedule = CourseSchedule::new(course);
     let stops = no_stops();
-    let (report, teletype) = (&mut Nowhere, &mut Nowhere);
+    let (mut report, mut teletype) = (Nowhere, Nowhere);
     match drive(
         machine,
         &mut schedule,
         &stops,
         &mut recorder,
-        report,
-        teletype,
+        &mut report,
+        &mut teletype,
     ) {
         Ok(_) => Ok(()),
         Err(_) => Err(NoMemory),
@@ -182,14 +182,14 @@ fn watch_by<S: Scheduler, N: Statements, A: Allocator + Copy, D: Allocator>(
 {
     let mut machine = WatchedMachine::new(alloc, image, declaration);
     let mut recorder = Recorder::new(alloc, false, &telling.trace);
-    let (report, teletype) = (&mut Nowhere, &mut Nowhere);
+    let (mut report, mut teletype) = (Nowhere, Nowhere);
     let ran = drive(
         &mut machine,
         schedule,
         telling.stops,
         &mut recorder,
-        report,
-        teletype,
+        &mut report,
+        &mut teletype,
     )?;
     let watched = watched_of(&ran, machine.came().events);
     let passed = machine.came().presses;

@@ -1,8 +1,6 @@
 //! A machine that is watched while it runs.
 
-ghost use Rattle.std.specs.Prelude.{◌≡◌, ◌≤◌, ◌<◌, ◌+◌, [], None, length};
-ghost use Rattle.processor.specs.Runs.{Image as Words};
-ghost use Rattle.peripherals.specs.Loading.{image_of};
+ghost use Rattle.std.specs.Prelude.{◌≡◌, []};
 ghost use Rattle.peripherals.specs.World.{profile_of};
 ghost use Rattle.declaration.specs.DeclarationInCode.{meaning};
 ghost use Rattle.policy.specs.OpenCalls.{calls_of, machine_of};
@@ -116,7 +114,7 @@ fn seen_of<A: Allocator>(event: &Event, was_halted: bool, world: &World<A>) -> S
 
 impl<A: Allocator, D: Allocator> Machine<A> for WatchedMachine<'_, A, D> {
     ghost use Rattle.machine_commands.specs.Follows.{Declared};
-    ghost use Rattle.machine_commands.specs.WatchedRun.{Breaks, IsClean, KnownSo};
+    ghost use Rattle.machine_commands.specs.WatchedRun.{Breaks, Counted, LedLegally};
 
     ghost conduct = { λ m. Declared (meaning m.declaration.now) };
 
@@ -124,8 +122,8 @@ impl<A: Allocator, D: Allocator> Machine<A> for WatchedMachine<'_, A, D> {
 
     ghost fits = { λ m. profile_of m.watcher.world ≡ (meaning m.declaration.now).profile };
 
-    ghost known = { λ m events n. KnownSo (meaning m.declaration.now) events (machine_of m.watcher)
-        (calls_of m.watcher) m.came.events (machine_of n.watcher) (calls_of n.watcher) n.came.events };
+    ghost known = { λ m events n. (calls_of m.watcher ≡ [] → LedLegally (meaning m.declaration.now) events
+        (machine_of m.watcher) (machine_of n.watcher) (calls_of n.watcher)) × Counted events m.came n.came };
 
     ghost breaks = { λ m rule. Breaks (meaning m.declaration.now) (machine_of m.watcher)
         (calls_of m.watcher) rule };

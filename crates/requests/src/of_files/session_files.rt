@@ -117,14 +117,16 @@ fn hold_session_with<
         punch: StdWriter::new(&mut punch),
     };
     let stopping = stops_of(&session.stopping);
+    let mut options = session.options;
+    options.run.trace = options.run.trace || session.long;
     let answer = run_session(
         alloc,
         frames,
         reader,
         keys,
-        session.options,
+        options,
         &stopping.stops,
-        trace_options(statements, false, stopping.last),
+        trace_options(statements, session.long, stopping.last),
         form,
         &mut outputs,
     );

@@ -12,7 +12,7 @@ returns c = record {
   once = c.in_ok-inputs.ensures.once;
   unlike = c.in_ok-punch.ensures.unlike;
   events = sym c.if-has_value.ensures;
-  long = c.if-is_given.ensures;
+  long = c.is_given-long.ensures;
   teletype = c.is_given-teletype.ensures;
   options = c.in_ok-options.ensures.options;
   summary = record { line = refl; printed = refl; punched = c.in_ok-punch.ensures.named };

@@ -1,4 +1,4 @@
-use Rattle.std.proofs.Common.{rules, ℕ, ◌≡◌, ◌+◌, ◌<◌, ◌≤◌, ◌∙◌, [], ◌∷◌, ◌++◌, List, Some, None, true, false, refl, sym, arith}
+use Rattle.std.proofs.Common.{rules, ℕ, ◌≡◌, ◌+◌, ◌<◌, ◌≤◌, ◌∙◌, [], ◌∷◌, ◌++◌, List, Ok, Some, None, true, false, refl, sym, arith}
 use Rattle.peripherals.specs.declared.Event.{Event}
 use Rattle.peripherals.specs.declared.Event.TheVariants.{Step}
 use Rattle.machine_commands.specs.declared.driving.Taken.TheVariants.{Saw, Breaks}
@@ -80,3 +80,48 @@ loop-event-preserved g c =
       untyped = or_right _ _ c.in_ok-play.ensures.marks;
       silent = λ quiet. c.in_ok-play.ensures.silent (inv.same.trace ∙ quiet) ∙ inv.silent quiet;
     }
+
+pub returns-in_default-visits_past-clause-ran : goal.returns-in_default-visits_past-clause-ran
+returns-in_default-visits_past-clause-ran g c =
+    let inv = c.loop-event.invariant in
+    let conduct = g.M.Machine.conduct c.args.machine.now in
+    let due : c.in-Some.event ≡ Step → (d : Conduct) → g.S.Scheduler.brings c.loop-event.schedule d (g.M.Machine.state c.loop-event.machine) ToStep (Step ∷ []) = rw c.in-Some.is at c.in_ok-event.ensures.to_step in
+    let none : c.visits_past.result ≡ None = search rules in
+    let on : stops_before c.args.stops.now (profile_in conduct) c.loop-event.visits (g.M.Machine.state c.loop-event.machine) c.in-Some.event ≡ true = rw (inv.conduct, none) at c.visits_past.ensures.passes in
+    un_to_stop g.S.Scheduler.brings (g.S.Scheduler.ends c.args.schedule.now) conduct c.args.stops.now _ _ _ c.args.schedule.now c.loop-event.schedule c.in-Some.event (g.M.Machine.state c.args.machine.now) (g.M.Machine.state c.loop-event.machine) c.loop-event.steps c.loop-event.visits _ _ _
+    inv.un due on (search rules) (search rules) (search rules)
+
+pub returns-in-Breaks-clause-ran : goal.returns-in-Breaks-clause-ran
+returns-in-Breaks-clause-ran g c =
+    let inv = c.loop-event.invariant in
+    let conduct = g.M.Machine.conduct c.args.machine.now in
+    let due : c.in-Some.event ≡ Step → (d : Conduct) → g.S.Scheduler.brings c.loop-event.schedule d (g.M.Machine.state c.loop-event.machine) ToStep (Step ∷ []) = rw c.in-Some.is at c.in_ok-event.ensures.to_step in
+    let broke : IsTaken conduct (g.M.Machine.state c.loop-event.machine) c.in-Some.event (g.M.Machine.state c.play.new.machine) (g.M.Machine.breaks c.play.new.machine) (Breaks c.in-Breaks.rule) = rw (inv.conduct, c.in-Breaks.is) at c.in_ok-play.ensures.taken in
+    un_to_break g.S.Scheduler.brings (g.S.Scheduler.ends c.args.schedule.now) conduct c.args.stops.now _ (λ (es : List Event). g.M.Machine.known c.args.machine.now es c.play.new.machine) (g.M.Machine.breaks c.play.new.machine)
+    _ (λ (ls : List ℕ). Recorded c.play.new.recorder ls (g.W.ByteSink.taken c.args.report.now) (g.W.ByteSink.taken c.play.new.report))
+    c.args.schedule.now c.loop-event.schedule c.in-Some.event (g.M.Machine.state c.args.machine.now) (g.M.Machine.state c.loop-event.machine) (g.M.Machine.state c.play.new.machine) c.loop-event.steps c.loop-event.visits c.in-Breaks.rule _ _ _ _
+    inv.un due broke.0 broke.1 broke.2 (λ es k. c.in_ok-play.ensures.unknown c.args.machine.now es c.in-Breaks.rule c.in-Breaks.is k)
+    (λ ls r. records_none (λ (l : List ℕ). Recorded c.play.new.recorder l (g.W.ByteSink.taken c.args.report.now) (g.W.ByteSink.taken c.play.new.report)) conduct _ _ c.in-Breaks.rule _ _ ls c.in-Breaks.is (c.in_ok-play.ensures.recorded ls (g.W.ByteSink.taken c.args.report.now) r))
+    c.in_ok-play.ensures.printed refl refl c.end_of.ensures
+
+pub returns-then-not-goes_on-clause-ran : goal.returns-then-not-goes_on-clause-ran
+returns-then-not-goes_on-clause-ran g c =
+    let inv = c.loop-event.invariant in
+    let conduct = g.M.Machine.conduct c.args.machine.now in
+    let next : IsNext g.S.Scheduler.brings (g.S.Scheduler.ends c.args.schedule.now) c.loop-event.schedule c.next_event.new.self (g.M.Machine.state c.loop-event.machine) c.in-Some.event = rw (c.in-Some.is, inv.ends) at c.in_ok-event.ensures.due in
+    let seen : IsTaken conduct (g.M.Machine.state c.loop-event.machine) c.in-Some.event (g.M.Machine.state c.play.new.machine) (g.M.Machine.breaks c.play.new.machine) (Saw c.in-Saw.seen) = rw (inv.conduct, c.in-Saw.is) at c.in_ok-play.ensures.taken in
+    let passed : Passes c.args.stops.now (profile_in conduct) c.loop-event.visits (g.M.Machine.state c.loop-event.machine) c.in-Some.event (Some c.in-Some-visits_past.more) = rw (inv.conduct, c.in-Some-visits_past.is) at c.visits_past.ensures.passes in
+    let over : goes_on (g.S.Scheduler.ends c.args.schedule.now) c.in-Saw.seen ≡ false = search rules in
+    un_last g.S.Scheduler.brings (g.S.Scheduler.ends c.args.schedule.now) conduct c.args.stops.now _ (λ (es : List Event). g.M.Machine.known c.args.machine.now es c.play.new.machine) _
+    _ (λ (ls : List ℕ). Recorded c.play.new.recorder ls (g.W.ByteSink.taken c.args.report.now) (g.W.ByteSink.taken c.play.new.report))
+    c.args.schedule.now c.loop-event.schedule c.next_event.new.self c.in-Some.event (g.M.Machine.state c.args.machine.now) (g.M.Machine.state c.loop-event.machine) (g.M.Machine.state c.play.new.machine) c.loop-event.steps c.loop-event.visits c.in-Saw.seen _ _ _ _
+    inv.un next seen.0 seen.1 over passed.0 (λ es k. c.in_ok-play.ensures.known c.args.machine.now es c.in-Saw.seen c.in-Saw.is k)
+    (λ ls r. records_seen (λ (l : List ℕ). Recorded c.play.new.recorder l (g.W.ByteSink.taken c.args.report.now) (g.W.ByteSink.taken c.play.new.report)) conduct _ _ c.in-Saw.seen _ _ c.in-Some.event ls c.in-Saw.is inv.conduct seen.0 (c.in_ok-play.ensures.recorded ls (g.W.ByteSink.taken c.args.report.now) r))
+    c.in_ok-play.ensures.printed (search rules) (search rules) (search rules)
+
+pub returns-clause-ran : goal.returns-clause-ran
+returns-clause-ran g c =
+    let inv = c.loop-event.invariant in
+    let none : c.next_event.result ≡ Ok None = search rules in
+    un_all g.S.Scheduler.brings (g.S.Scheduler.ends c.args.schedule.now) (g.M.Machine.conduct c.args.machine.now) c.args.stops.now _ _ _ c.args.schedule.now c.loop-event.schedule (g.M.Machine.state c.args.machine.now) (g.M.Machine.state c.loop-event.machine) c.loop-event.steps c.loop-event.visits _ _ _
+    inv.un (λ d extent. c.next_event.ensures.over none d extent) (search rules) (search rules) (search rules)

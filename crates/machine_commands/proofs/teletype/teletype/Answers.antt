@@ -1,5 +1,6 @@
 use Rattle.std.proofs.Common.{◌∙◌, refl, sym, inl, arith}
 use Rattle.std.proofs.lemmas.Result.{err_from_is_err_and}
+use Rattle.machine_commands.specs.StoppedSession.{shown_by}
 use Rattle.machine_commands.specs.TypingParts.{source}
 use Rattle.machine_commands.proofs.HeldLemmas.{held_no_tape}
 use Rattle.machine_commands.proofs.StoppedSessionLemmas.{typed_stop_ok}
@@ -20,7 +21,7 @@ pub returns-clause-run : goal.returns-clause-run
 returns-clause-run g c =
     let t = c.args.typist.now in
     let run = rw (c.begin.ensures, c.run_of-options.ensures, c.options.ensures) at c.run_scheduled.ensures.run in
-    typed_stop_ok t.options c.args.stops.now c.args.last c.args.form _ (g.R.ByteSource.remaining c.args.tape.now) (source (g.F.ByteSource.remaining t.reader) (g.F.ByteSource.ended t.reader)) (source (g.K.ByteSource.remaining t.keys) (g.K.ByteSource.ended t.keys)) c.in_ok-image.image c.run_scheduled.result _ _ c.in_ok-image.ensures.tape run
+    typed_stop_ok t.options c.args.stops.now (shown_by c.args.trace) c.args.form _ (g.R.ByteSource.remaining c.args.tape.now) (source (g.F.ByteSource.remaining t.reader) (g.F.ByteSource.ended t.reader)) (source (g.K.ByteSource.remaining t.keys) (g.K.ByteSource.ended t.keys)) c.in_ok-image.image c.run_scheduled.result _ _ c.in_ok-image.ensures.tape run
 
 pub returns-clause-faults : goal.returns-clause-faults
 returns-clause-faults g c = typed_faults _ c.in_ok-image.image c.run_scheduled.result c.in_ok-image.ensures.tape c.run_scheduled.ensures.faults

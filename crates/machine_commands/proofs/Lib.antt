@@ -12,3 +12,4 @@ pub mod SummaryLemmas
 pub mod TeletypeLemmas
 pub mod TypistLemmas
 pub mod UnreadLemmas
+pub mod WatchLemmas

@@ -1,7 +1,10 @@
 -- What a machine that is watched knows of the events that it took. Private contracts alone cite this.
-use Rattle.std.specs.Prelude.{ℕ, ◌≡◌, ◌+◌, ◌<◌, List, [], ◌++◌, length, None}
+use Rattle.std.specs.Prelude.{ℕ, ◌≡◌, ◌+◌, ◌<◌, Bool, true, false, List, [], ◌++◌, Option, Some, None, length}
 use Rattle.processor.specs.Runs.{Image}
 use Rattle.peripherals.specs.declared.Event.{Event}
+use Rattle.peripherals.specs.declared.Event.TheVariants.{Step}
+use Rattle.peripherals.specs.declared.Seen.{Seen}
+use Rattle.peripherals.specs.declared.Seen.TheVariants.{NotEnabled, Changed, Ran, Halted}
 use Rattle.peripherals.specs.Devices.{WorldState}
 use Rattle.declaration.specs.Declaration.{Declaration}
 use Rattle.policy.specs.Calls.{Calls}
@@ -23,6 +26,17 @@ pub record LedLegally (d : Declaration) (events : List Event) (w x : WorldState)
 pub record Counted (events : List Event) (before after : Progress) : Type 0 where
   pub all : before.events + length events < 18446744073709551616 → after.events ≡ before.events + length events
   pub presses : before.presses + presses events < 18446744073709551616 → after.presses ≡ before.presses + presses events
+
+-- What is seen of a step that is legal, of a machine that was halted or not, and is then.
+abbrev pub seen_after_step : Bool → Option ℕ → Seen
+seen_after_step true halted = NotEnabled
+seen_after_step false None = Ran
+seen_after_step false (Some at) = Halted
+
+-- What is seen of an event that happened under the watcher.
+abbrev pub seen_watched : Event → Bool → Option ℕ → Seen
+seen_watched Step was halted = seen_after_step was halted
+seen_watched _ was halted = Changed
 
 -- The next step of a machine that runs violates this rule and none of lesser numbers, if fixed code is as the tape has it.
 pub record Breaks (d : Declaration) (w : WorldState) (ks : Calls) (r : Rule) : Type 0 where

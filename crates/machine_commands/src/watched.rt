@@ -1,10 +1,11 @@
 //! A machine that is watched while it runs.
 
-ghost use Rattle.std.specs.Prelude.{◌≡◌, []};
-ghost use Rattle.peripherals.specs.World.{profile_of};
+ghost use Rattle.std.specs.Prelude.{◌≡◌, [], ◌∷◌};
+ghost use Rattle.peripherals.specs.World.{profile_of, view};
 ghost use Rattle.declaration.specs.DeclarationInCode.{meaning};
 ghost use Rattle.policy.specs.OpenCalls.{calls_of, machine_of};
 ghost use Rattle.machine_commands.specs.Running.{fresh};
+ghost use Rattle.machine_commands.specs.WatchedRun.{Counted, seen_watched};
 
 use crate::driving::{Machine, Taken};
 use bin_tape::Image;
@@ -35,7 +36,9 @@ pub(crate) struct Progress {
 
 impl Progress {
     /// Counts an event, of which the reader takes a frame only where it waits for one.
-    fn count(&mut self, event: &Event, reader_waits: bool) {
+    fn count(&mut self, event: &Event, reader_waits: bool)
+        ensures { Counted (event.now ∷ []) self.old self.new }
+    {
         self.events = self.events.saturating_add(1);
         match event {
             Event::ReaderDone(_) if reader_waits => self.frames = self.frames.saturating_add(1),
@@ -103,18 +106,26 @@ impl<'d, A: Allocator, D: Allocator> WatchedMachine<'d, A, D> {
 
 /// What was seen of an event that happened, before which the machine was halted or not: no legal step is at a word that is
 /// not supported.
-fn seen_of<A: Allocator>(event: &Event, was_halted: bool, world: &World<A>) -> Seen {
+fn seen_of<A: Allocator>(event: &Event, was_halted: bool, world: &World<A>) -> Seen
+    ensures { result ≡ seen_watched event.now was_halted (view world.now).halted_at }
+{
     match event {
-        Event::Step if was_halted => Seen::NotEnabled,
-        Event::Step if world.halted_at().is_some() => Seen::Halted,
-        Event::Step => Seen::Ran,
+        Event::Step => {
+            if was_halted {
+                return Seen::NotEnabled;
+            }
+            match world.halted_at() {
+                Some(_) => Seen::Halted,
+                None => Seen::Ran,
+            }
+        }
         _ => Seen::Changed,
     }
 }
 
 impl<A: Allocator, D: Allocator> Machine<A> for WatchedMachine<'_, A, D> {
     ghost use Rattle.machine_commands.specs.Follows.{Declared};
-    ghost use Rattle.machine_commands.specs.WatchedRun.{Breaks, Counted, LedLegally};
+    ghost use Rattle.machine_commands.specs.WatchedRun.{Breaks, LedLegally};
 
     ghost conduct = { λ m. Declared (meaning m.declaration.now) };
 
@@ -122,7 +133,7 @@ impl<A: Allocator, D: Allocator> Machine<A> for WatchedMachine<'_, A, D> {
 
     ghost fits = { λ m. profile_of m.watcher.world ≡ (meaning m.declaration.now).profile };
 
-    ghost known = { λ m events n. (calls_of m.watcher ≡ [] → LedLegally (meaning m.declaration.now) events
+    ghost known = { λ m events n. (calls_of m.watcher ≡ [] → LedLegally (meaning n.declaration.now) events
         (machine_of m.watcher) (machine_of n.watcher) (calls_of n.watcher)) × Counted events m.came n.came };
 
     ghost breaks = { λ m rule. Breaks (meaning m.declaration.now) (machine_of m.watcher)
@@ -134,6 +145,7 @@ impl<A: Allocator, D: Allocator> Machine<A> for WatchedMachine<'_, A, D> {
     }
 
     fn take(&mut self, event: Event) -> Result<Taken, NoMemory> {
+        self.declaration.is_declared();
         let world = self.watcher.world();
         let was_halted = world.halted_at().is_some();
         let reader_waits = world.panel().reader.fetching;

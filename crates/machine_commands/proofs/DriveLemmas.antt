@@ -1,5 +1,5 @@
 -- A run by a schedule, event by event.
-use Rattle.std.proofs.Common.{ℕ, zero, suc, ◌≡◌, ◌+◌, ◌≤◌, Bool, true, false, ◌||◌, List, [], ◌∷◌, ◌++◌, length, refl, sym, ◌∙◌, ap, append_assoc, append-nil, add_assoc, add-zero, zero-add, length-append, arith, Some, None, Option, true≢false}
+use Rattle.std.proofs.Common.{ℕ, zero, suc, ◌≡◌, ◌+◌, ◌<◌, ◌≤◌, Bool, true, false, ◌||◌, List, [], ◌∷◌, ◌++◌, length, refl, sym, ◌∙◌, ap, append_assoc, append-nil, add_assoc, add-zero, zero-add, length-append, arith, Some, None, Option, true≢false}
 use Rattle.std.specs.Prelude.{IfSome, is_some}
 use Rattle.std.specs.Io.KnownBytes.{Appends}
 use Rattle.std.proofs.KnownBytes.{Appends-nil, Appends-trans}
@@ -92,6 +92,9 @@ pub record Unmet (stops : Stops) (c : Conduct) (h : Bool) (es : List Event) (w :
   pub later : (rest : List Event) (count : ℕ) → StopsAfter stops c h visits rest x count → StopsAfter stops c h 0 (es ++ rest) w (length es + count)
   pub never : (rest : List Event) → NeverStops stops c h visits rest x → NeverStops stops c h 0 (es ++ rest) w
 
+one_more_long : (es : List Event) (e : Event) → length (es ++ e ∷ []) ≡ length es + 1
+one_more_long es e = length-append es (e ∷ [])
+
 one_longer : (es : List Event) (e : Event) (count : ℕ) → length (es ++ e ∷ []) + count ≡ length es + suc count
 one_longer es e count =
     let l : length (es ++ e ∷ []) ≡ length es + 1 = length-append es (e ∷ []) in
@@ -111,40 +114,43 @@ never_so : (stops : Stops) (c : Conduct) (h : Bool) (es : List Event) (w : World
 never_so stops c h es w visits x unmet = rw (append-nil es) at (unmet.never [] (Over visits x))
 
 -- The run came so far: these events came, none of them stopped it, and whatever comes further comes after them.
-pub record Unstopped {S : Type 0} (brings : S → Conduct → WorldState → Extent → List Event → Type 0) (h : Bool) (c : Conduct) (stops : Stops) (known : List Event → Type 0) (recorded : List ℕ → Type 0) (first now : S) (w x : WorldState) (n visits : ℕ) (told_old told_new : Option (List ℕ)) : Type 0 where
+pub record Unstopped {S : Type 0} (brings : S → Conduct → WorldState → Extent → List Event → Type 0) (h : Bool) (c : Conduct) (stops : Stops) (known : List Event → Type 0) (recorded : List ℕ → Type 0) (left : S → ℕ) (first now : S) (w x : WorldState) (n visits : ℕ) (told_old told_new : Option (List ℕ)) : Type 0 where
   pub events : List Event
   pub lines : List ℕ
   pub leads : Leads c h events w lines n x
   pub come : (extent : Extent) (rest : List Event) → brings now c x extent rest → brings first c w extent (events ++ rest)
+  pub few : length events + left now ≤ left first
   pub known_of : known events
   pub recorded_of : recorded lines
   pub printed : Appends told_old told_new (printed_in x)
   pub unmet : Unmet stops c h events w visits x
 
-pub un_none : {S : Type 0} (brings : S → Conduct → WorldState → Extent → List Event → Type 0) (h : Bool) (c : Conduct) (stops : Stops) (known : List Event → Type 0) (recorded : List ℕ → Type 0) (s : S) (w : WorldState) (told : Option (List ℕ)) →
-    w.devices.printer.output ≡ [] → known [] → recorded [] → Unstopped brings h c stops known recorded s s w w 0 0 told told
-un_none brings h c stops known recorded s w told empty nothing none = record {
+pub un_none : {S : Type 0} (brings : S → Conduct → WorldState → Extent → List Event → Type 0) (h : Bool) (c : Conduct) (stops : Stops) (known : List Event → Type 0) (recorded : List ℕ → Type 0) (left : S → ℕ) (s : S) (w : WorldState) (told : Option (List ℕ)) →
+    w.devices.printer.output ≡ [] → known [] → recorded [] → Unstopped brings h c stops known recorded left s s w w 0 0 told told
+un_none brings h c stops known recorded left s w told empty nothing none = record {
   events = [];
   lines = [];
   leads = λ rest more k end y follows. rw (zero-add k) follows;
   come = λ extent rest comes. comes;
+  few = omega arith;
   known_of = nothing;
   recorded_of = none;
   printed = rw empty (Appends-nil told);
   unmet = record { later = λ rest count stop. rw (zero-add count) stop; never = λ rest never. never };
 }
 
-pub un_more : {S : Type 0} (brings : S → Conduct → WorldState → Extent → List Event → Type 0) (h : Bool) (c : Conduct) (stops : Stops) (known more_known : List Event → Type 0) (recorded more_recorded : List ℕ → Type 0) (first now after : S) (e : Event) (w x y : WorldState) (n visits : ℕ) (what : Seen) (told mid tells : Option (List ℕ)) →
-    Unstopped brings h c stops known recorded first now w x n visits told mid → IsNext brings h now after x e → what ≡ seen_by c x e → happens_by c x e y → goes_on h what ≡ true →
+pub un_more : {S : Type 0} (brings : S → Conduct → WorldState → Extent → List Event → Type 0) (h : Bool) (c : Conduct) (stops : Stops) (known more_known : List Event → Type 0) (recorded more_recorded : List ℕ → Type 0) (left : S → ℕ) (first now after : S) (e : Event) (w x y : WorldState) (n visits : ℕ) (what : Seen) (told mid tells : Option (List ℕ)) →
+    Unstopped brings h c stops known recorded left first now w x n visits told mid → IsNext brings h now after x e → left after < left now → what ≡ seen_by c x e → happens_by c x e y → goes_on h what ≡ true →
     stops_before stops (profile_in c) visits x e ≡ false → ((es : List Event) → known es → more_known (es ++ e ∷ [])) → ((ls : List ℕ) → recorded ls → more_recorded (ls ++ trace_by c x e y)) →
-    Appends mid tells (printed_from x y) → Unstopped brings h c stops more_known more_recorded first after w y (n + counted what) (visits_with stops visits x e) told tells
-un_more brings h c stops known more_known recorded more_recorded first now after e w x y n visits what told mid tells un next sees happens goes off knows records printed =
+    Appends mid tells (printed_from x y) → Unstopped brings h c stops more_known more_recorded left first after w y (n + counted what) (visits_with stops visits x e) told tells
+un_more brings h c stops known more_known recorded more_recorded left first now after e w x y n visits what told mid tells un next fewer sees happens goes off knows records printed =
     let on : goes_on h (seen_by c x e) ≡ true = rw (← sees) goes in
     record {
       events = un.events ++ e ∷ [];
       lines = un.lines ++ trace_by c x e y;
       leads = leads_more c h un.events w un.lines n e x y what un.leads (sym sees) goes happens;
       come = λ extent rest comes. rw (one_more un.events e rest) (un.come extent (e ∷ rest) (next.on c y extent rest on happens comes));
+      few = let long = one_more_long un.events e in let was = un.few in omega (arith, long, was, fewer);
       known_of = knows un.events un.known_of;
       recorded_of = records un.lines un.recorded_of;
       printed = printed_next c x y e told mid tells happens un.printed printed;
@@ -152,10 +158,10 @@ un_more brings h c stops known more_known recorded more_recorded first now after
     }
 
 -- the step that is due stops the run
-pub un_to_stop : {S : Type 0} (brings : S → Conduct → WorldState → Extent → List Event → Type 0) (h : Bool) (c : Conduct) (stops : Stops) (known : List Event → Type 0) (breaks : Rule → Type 0) (recorded : List ℕ → Type 0) (first now : S) (e : Event) (w x : WorldState) (n visits : ℕ) (ran : DrivenRun) (told tells : Option (List ℕ)) →
-    Unstopped brings h c stops known recorded first now w x n visits told tells → (e ≡ Step → (d : Conduct) → brings now d x ToStep (Step ∷ [])) → stops_before stops (profile_in c) visits x e ≡ true →
-    ran.broken ≡ None → ran.outcome.steps ≡ n → ran.outcome.end ≡ end.Stopped x.state.pc → Driven (brings first) h c stops known breaks recorded w ran x told tells
-un_to_stop brings h c stops known breaks recorded first now e w x n visits ran told tells un due on unbroken steps ends =
+pub un_to_stop : {S : Type 0} (brings : S → Conduct → WorldState → Extent → List Event → Type 0) (h : Bool) (c : Conduct) (stops : Stops) (known : List Event → Type 0) (breaks : Rule → Type 0) (recorded : List ℕ → Type 0) (left : S → ℕ) (first now : S) (e : Event) (w x : WorldState) (n visits : ℕ) (ran : DrivenRun) (told tells : Option (List ℕ)) →
+    Unstopped brings h c stops known recorded left first now w x n visits told tells → (e ≡ Step → (d : Conduct) → brings now d x ToStep (Step ∷ [])) → stops_before stops (profile_in c) visits x e ≡ true →
+    ran.broken ≡ None → ran.outcome.steps ≡ n → ran.outcome.end ≡ end.Stopped x.state.pc → Driven (brings first) h (left first) c stops known breaks recorded w ran x told tells
+un_to_stop brings h c stops known breaks recorded left first now e w x n visits ran told tells un due on unbroken steps ends =
     let step : e ≡ Step = step_of stops (profile_in c) visits x e on in
     let here : stops_before stops (profile_in c) visits x Step ≡ true = rw step at on in
     record {
@@ -167,6 +173,7 @@ un_to_stop brings h c stops known breaks recorded first now e w x n visits ran t
       last = end_of x;
       follows = rw steps (leads_here c h un.events w un.lines n x un.leads);
       ends = ends;
+      few = let was = un.few in omega (arith, was);
       known_of = un.known_of;
       broke = rw unbroken tt;
       recorded_of = un.recorded_of;
@@ -174,11 +181,11 @@ un_to_stop brings h c stops known breaks recorded first now e w x n visits ran t
     }
 
 -- the step that is due would violate a rule
-pub un_to_break : {S : Type 0} (brings : S → Conduct → WorldState → Extent → List Event → Type 0) (h : Bool) (c : Conduct) (stops : Stops) (known more_known : List Event → Type 0) (breaks : Rule → Type 0) (recorded more_recorded : List ℕ → Type 0) (first now : S) (e : Event) (w x y : WorldState) (n visits : ℕ) (rule : Rule) (ran : DrivenRun) (told mid tells : Option (List ℕ)) →
-    Unstopped brings h c stops known recorded first now w x n visits told mid → (e ≡ Step → (d : Conduct) → brings now d x ToStep (Step ∷ [])) → e ≡ Step → y ≡ x → breaks rule →
+pub un_to_break : {S : Type 0} (brings : S → Conduct → WorldState → Extent → List Event → Type 0) (h : Bool) (c : Conduct) (stops : Stops) (known more_known : List Event → Type 0) (breaks : Rule → Type 0) (recorded more_recorded : List ℕ → Type 0) (left : S → ℕ) (first now : S) (e : Event) (w x y : WorldState) (n visits : ℕ) (rule : Rule) (ran : DrivenRun) (told mid tells : Option (List ℕ)) →
+    Unstopped brings h c stops known recorded left first now w x n visits told mid → (e ≡ Step → (d : Conduct) → brings now d x ToStep (Step ∷ [])) → e ≡ Step → y ≡ x → breaks rule →
     ((es : List Event) → known es → more_known es) → ((ls : List ℕ) → recorded ls → more_recorded (ls ++ [])) → Appends mid tells (printed_from x y) →
-    ran.broken ≡ Some rule → ran.outcome.steps ≡ n → ran.outcome.end ≡ end_of y → Driven (brings first) h c stops more_known breaks more_recorded w ran y told tells
-un_to_break brings h c stops known more_known breaks recorded more_recorded first now e w x y n visits rule ran told mid tells un due step same broke knows records printed broken steps ends = record {
+    ran.broken ≡ Some rule → ran.outcome.steps ≡ n → ran.outcome.end ≡ end_of y → Driven (brings first) h (left first) c stops more_known breaks more_recorded w ran y told tells
+un_to_break brings h c stops known more_known breaks recorded more_recorded left first now e w x y n visits rule ran told mid tells un due step same broke knows records printed broken steps ends = record {
   events = un.events;
   stopped = false;
   come = rw broken (un.come ToStep (Step ∷ []) (due step c));
@@ -187,6 +194,7 @@ un_to_break brings h c stops known more_known breaks recorded more_recorded firs
   last = end_of y;
   follows = rw (steps, same) (leads_here c h un.events w un.lines n x un.leads);
   ends = ends;
+  few = let was = un.few in omega (arith, was);
   known_of = knows un.events un.known_of;
   broke = rw broken broke;
   recorded_of = rw (append-nil un.lines) at (records un.lines un.recorded_of);
@@ -194,10 +202,10 @@ un_to_break brings h c stops known more_known breaks recorded more_recorded firs
 }
 
 -- nothing is due any more
-pub un_all : {S : Type 0} (brings : S → Conduct → WorldState → Extent → List Event → Type 0) (h : Bool) (c : Conduct) (stops : Stops) (known : List Event → Type 0) (breaks : Rule → Type 0) (recorded : List ℕ → Type 0) (first now : S) (w x : WorldState) (n visits : ℕ) (ran : DrivenRun) (told tells : Option (List ℕ)) →
-    Unstopped brings h c stops known recorded first now w x n visits told tells → ((d : Conduct) (extent : Extent) → brings now d x extent []) →
-    ran.broken ≡ None → ran.outcome.steps ≡ n → ran.outcome.end ≡ end_of x → Driven (brings first) h c stops known breaks recorded w ran x told tells
-un_all brings h c stops known breaks recorded first now w x n visits ran told tells un over unbroken steps ends =
+pub un_all : {S : Type 0} (brings : S → Conduct → WorldState → Extent → List Event → Type 0) (h : Bool) (c : Conduct) (stops : Stops) (known : List Event → Type 0) (breaks : Rule → Type 0) (recorded : List ℕ → Type 0) (left : S → ℕ) (first now : S) (w x : WorldState) (n visits : ℕ) (ran : DrivenRun) (told tells : Option (List ℕ)) →
+    Unstopped brings h c stops known recorded left first now w x n visits told tells → ((d : Conduct) (extent : Extent) → brings now d x extent []) →
+    ran.broken ≡ None → ran.outcome.steps ≡ n → ran.outcome.end ≡ end_of x → Driven (brings first) h (left first) c stops known breaks recorded w ran x told tells
+un_all brings h c stops known breaks recorded left first now w x n visits ran told tells un over unbroken steps ends =
     let all : brings first c w Whole (un.events ++ []) = un.come Whole [] (over c Whole) in
     let whole : brings first c w Whole un.events = rw (append-nil un.events) at all in
     record {
@@ -209,6 +217,7 @@ un_all brings h c stops known breaks recorded first now w x n visits ran told te
       last = end_of x;
       follows = rw steps (leads_here c h un.events w un.lines n x un.leads);
       ends = ends;
+      few = let was = un.few in omega (arith, was);
       known_of = un.known_of;
       broke = rw unbroken tt;
       recorded_of = un.recorded_of;
@@ -216,11 +225,11 @@ un_all brings h c stops known breaks recorded first now w x n visits ran told te
     }
 
 -- the run ends with an event
-pub un_last : {S : Type 0} (brings : S → Conduct → WorldState → Extent → List Event → Type 0) (h : Bool) (c : Conduct) (stops : Stops) (known more_known : List Event → Type 0) (breaks : Rule → Type 0) (recorded more_recorded : List ℕ → Type 0) (first now after : S) (e : Event) (w x y : WorldState) (n visits : ℕ) (what : Seen) (ran : DrivenRun) (told mid tells : Option (List ℕ)) →
-    Unstopped brings h c stops known recorded first now w x n visits told mid → IsNext brings h now after x e → what ≡ seen_by c x e → happens_by c x e y → goes_on h what ≡ false →
+pub un_last : {S : Type 0} (brings : S → Conduct → WorldState → Extent → List Event → Type 0) (h : Bool) (c : Conduct) (stops : Stops) (known more_known : List Event → Type 0) (breaks : Rule → Type 0) (recorded more_recorded : List ℕ → Type 0) (left : S → ℕ) (first now after : S) (e : Event) (w x y : WorldState) (n visits : ℕ) (what : Seen) (ran : DrivenRun) (told mid tells : Option (List ℕ)) →
+    Unstopped brings h c stops known recorded left first now w x n visits told mid → IsNext brings h now after x e → left after < left now → what ≡ seen_by c x e → happens_by c x e y → goes_on h what ≡ false →
     stops_before stops (profile_in c) visits x e ≡ false → ((es : List Event) → known es → more_known (es ++ e ∷ [])) → ((ls : List ℕ) → recorded ls → more_recorded (ls ++ trace_by c x e y)) →
-    Appends mid tells (printed_from x y) → ran.broken ≡ None → ran.outcome.steps ≡ n + counted what → ran.outcome.end ≡ end_after what y → Driven (brings first) h c stops more_known breaks more_recorded w ran y told tells
-un_last brings h c stops known more_known breaks recorded more_recorded first now after e w x y n visits what ran told mid tells un next sees happens goes off knows records printed unbroken steps ends =
+    Appends mid tells (printed_from x y) → ran.broken ≡ None → ran.outcome.steps ≡ n + counted what → ran.outcome.end ≡ end_after what y → Driven (brings first) h (left first) c stops more_known breaks more_recorded w ran y told tells
+un_last brings h c stops known more_known breaks recorded more_recorded left first now after e w x y n visits what ran told mid tells un next fewer sees happens goes off knows records printed unbroken steps ends =
     let over : goes_on h (seen_by c x e) ≡ false = rw (← sees) goes in
     let come : brings first c w Whole (un.events ++ e ∷ []) = un.come Whole (e ∷ []) (next.last c Whole over) in
     record {
@@ -232,6 +241,7 @@ un_last brings h c stops known more_known breaks recorded more_recorded first no
       last = end_after what y;
       follows = rw steps (un.leads (e ∷ []) (trace_by c x e y) (counted what) (end_after what y) y (last_one c h e x y what (sym sees) goes happens));
       ends = ends;
+      few = let long = one_more_long un.events e in let was = un.few in omega (arith, long, was, fewer);
       known_of = knows un.events un.known_of;
       broke = rw unbroken tt;
       recorded_of = records un.lines un.recorded_of;

@@ -50,11 +50,11 @@ pub record Told {N A : Type 0} (r : Recorder N A) (options : RunOptions) (shown 
   pub lines : (lines : List ℕ) → KeepsIf r.last lines → last ≡ last_of (most_of r.last) lines
 
 -- the run, of which this was written as it went, and this is told when it is over
-held_so : {N A : Type 0} (comes : Conduct → WorldState → Extent → List Event → Type 0) (h : Bool) (options : RunOptions) (stops : Stops) (shown : Shown) (form : SummaryForm) (left : Bool) (image : List (Option ℕ)) (p : Profile) (w x : WorldState) (ran : DrivenRun) (outcome : RunOutcome) (status : Status) (r : Recorder N A) (known : List Event → Type 0) (during last : List ℕ) (old mid told_old told_new : Option (List ℕ)) →
-    p ≡ options.profile → w ≡ fresh image options.start → (driven : Driven comes h (Usual p) stops known (λ rule. ⊥) (λ ls. Recorded r ls old mid) w ran x told_old told_new) → Told r options shown last →
+held_so : {N A : Type 0} (comes : Conduct → WorldState → Extent → List Event → Type 0) (h : Bool) (options : RunOptions) (stops : Stops) (shown : Shown) (form : SummaryForm) (left : Bool) (image : List (Option ℕ)) (p : Profile) (w x : WorldState) (ran : DrivenRun) (outcome : RunOutcome) (status : Status) (r : Recorder N A) (known : List Event → Type 0) (most : ℕ) (during last : List ℕ) (old mid told_old told_new : Option (List ℕ)) →
+    p ≡ options.profile → w ≡ fresh image options.start → (driven : Driven comes h most (Usual p) stops known (λ rule. ⊥) (λ ls. Recorded r ls old mid) w ran x told_old told_new) → Told r options shown last →
     IsTraced shown.long options.trace driven.lines during → outcome.steps ≡ ran.outcome.steps → outcome.end ≡ leaving left ran.outcome.end x → status ≡ status_of outcome.end →
     IsHeldToStop comes h options stops shown form left image (during ++ closing_behind last (words options.show) form outcome.end x outcome.steps) (printed_in x) x.devices.punch.output status
-held_so comes h options stops shown form left image p w x ran outcome status r known during last old mid told_old told_new profile begins driven tells traced steps ends is =
+held_so comes h options stops shown form left image p w x ran outcome status r known most during last old mid told_old told_new profile begins driven tells traced steps ends is =
     let whole : (driven.stopped || is_some ran.broken) ≡ driven.stopped = or_none driven.stopped ran.broken (unbroken ran.broken driven.broke) in
     let come : comes (Usual p) w (extent_to_stop driven.stopped) (to_stop driven.stopped driven.events) = rw whole at driven.come in
     let stop : StoppedSo stops (Usual p) h driven.stopped driven.events w = driven.stop in
@@ -80,36 +80,36 @@ held_so comes h options stops shown form left image p w x ran outcome status r k
       status_is = is ∙ ap status_of end_is;
     }
 
-pub held : {N A : Type 0} (comes : Conduct → WorldState → Extent → List Event → Type 0) (h : Bool) (options : RunOptions) (stops : Stops) (shown : Shown) (form : SummaryForm) (left : Bool) (image : List (Option ℕ)) (p : Profile) (w x : WorldState) (ran : DrivenRun) (outcome : RunOutcome) (status : Status) (r : Recorder N A) (known : List Event → Type 0) (last : List ℕ) (old mid new told_old told_new held_old held_new : Option (List ℕ)) →
-    p ≡ options.profile → w ≡ fresh image options.start → Driven comes h (Usual p) stops known (λ rule. ⊥) (λ ls. Recorded r ls old mid) w ran x told_old told_new → Told r options shown last →
+pub held : {N A : Type 0} (comes : Conduct → WorldState → Extent → List Event → Type 0) (h : Bool) (options : RunOptions) (stops : Stops) (shown : Shown) (form : SummaryForm) (left : Bool) (image : List (Option ℕ)) (p : Profile) (w x : WorldState) (ran : DrivenRun) (outcome : RunOutcome) (status : Status) (r : Recorder N A) (known : List Event → Type 0) (most : ℕ) (last : List ℕ) (old mid new told_old told_new held_old held_new : Option (List ℕ)) →
+    p ≡ options.profile → w ≡ fresh image options.start → Driven comes h most (Usual p) stops known (λ rule. ⊥) (λ ls. Recorded r ls old mid) w ran x told_old told_new → Told r options shown last →
     outcome.steps ≡ ran.outcome.steps → outcome.end ≡ leaving left ran.outcome.end x → status ≡ status_of outcome.end →
     Appends held_old held_new x.devices.punch.output → Appends mid new (closing_behind last (words options.show) form outcome.end x outcome.steps) →
     WritesAll (λ text printed punched. IsHeldToStop comes h options stops shown form left image text printed punched status) (taken old told_old held_old) (taken new told_new held_new)
-held comes h options stops shown form left image p w x ran outcome status r known last old mid new told_old told_new held_old held_new profile begins driven tells steps ends is punched wrote =
+held comes h options stops shown form left image p w x ran outcome status r known most last old mid new told_old told_new held_old held_new profile begins driven tells steps ends is punched wrote =
     let recorded = driven.recorded_of in
     let traced : IsTraced shown.long options.trace driven.lines recorded.during = rw (tells.long, tells.trace) at recorded.is_traced in
     record {
       text = recorded.during ++ closing_behind last (words options.show) form outcome.end x outcome.steps;
       printed = printed_in x;
       punched = x.devices.punch.output;
-      is = held_so comes h options stops shown form left image p w x ran outcome status r known recorded.during last old mid told_old told_new profile begins driven tells traced steps ends is;
+      is = held_so comes h options stops shown form left image p w x ran outcome status r known most recorded.during last old mid told_old told_new profile begins driven tells traced steps ends is;
       to_report = Appends-trans old mid new recorded.during (closing_behind last (words options.show) form outcome.end x outcome.steps) recorded.wrote wrote;
       to_teletype = driven.printed;
       to_punch = punched;
     }
 
 -- without a trace a prefix of what is told when the run is over went out
-pub held_front : {N A : Type 0} (comes : Conduct → WorldState → Extent → List Event → Type 0) (h : Bool) (options : RunOptions) (stops : Stops) (shown : Shown) (form : SummaryForm) (left : Bool) (image : List (Option ℕ)) (p : Profile) (w x : WorldState) (ran : DrivenRun) (outcome : RunOutcome) (r : Recorder N A) (known : List Event → Type 0) (last : List ℕ) (old mid new told_old told_new : Option (List ℕ)) →
-    p ≡ options.profile → w ≡ fresh image options.start → Driven comes h (Usual p) stops known (λ rule. ⊥) (λ ls. Recorded r ls old mid) w ran x told_old told_new → Told r options shown last →
+pub held_front : {N A : Type 0} (comes : Conduct → WorldState → Extent → List Event → Type 0) (h : Bool) (options : RunOptions) (stops : Stops) (shown : Shown) (form : SummaryForm) (left : Bool) (image : List (Option ℕ)) (p : Profile) (w x : WorldState) (ran : DrivenRun) (outcome : RunOutcome) (r : Recorder N A) (known : List Event → Type 0) (most : ℕ) (last : List ℕ) (old mid new told_old told_new : Option (List ℕ)) →
+    p ≡ options.profile → w ≡ fresh image options.start → Driven comes h most (Usual p) stops known (λ rule. ⊥) (λ ls. Recorded r ls old mid) w ran x told_old told_new → Told r options shown last →
     outcome.steps ≡ ran.outcome.steps → outcome.end ≡ leaving left ran.outcome.end x → options.trace ≡ false → mid ≡ old → AppendsFront mid new (closing_behind last (words options.show) form outcome.end x outcome.steps) →
     FrontOf (λ text. (printed : List ℕ) × (punched : List ℕ) × (status : Status) × IsHeldToStop comes h options stops shown form left image text printed punched status) old new
-held_front comes h options stops shown form left image p w x ran outcome r known last old mid new told_old told_new profile begins driven tells steps ends quiet same front = record {
+held_front comes h options stops shown form left image p w x ran outcome r known most last old mid new told_old told_new profile begins driven tells steps ends quiet same front = record {
   text = closing_behind last (words options.show) form outcome.end x outcome.steps;
   is = (
     printed_in x,
     x.devices.punch.output,
     status_of outcome.end,
-    held_so comes h options stops shown form left image p w x ran outcome (status_of outcome.end) r known [] last old mid told_old told_new profile begins driven tells (traced_none shown.long options.trace driven.lines quiet) steps ends refl,
+    held_so comes h options stops shown form left image p w x ran outcome (status_of outcome.end) r known most [] last old mid told_old told_new profile begins driven tells (traced_none shown.long options.trace driven.lines quiet) steps ends refl,
   );
   front = rw same at front;
 }

@@ -78,8 +78,8 @@ pub record SameOptions {N A : Type 0} (r s : Recorder N A) : Type 0 where
   pub statements : s.statements ≡ r.statements
   pub most : most_of s.last ≡ most_of r.last
 
--- A run came to its end in x, or was stopped there, or the next step would violate a rule: these events came.
-pub record Driven (comes : Conduct → WorldState → Extent → List Event → Type 0) (ends_at_halt : Bool) (c : Conduct) (stops : Stops) (known : List Event → Type 0) (breaks : Rule → Type 0) (recorded : List ℕ → Type 0) (w : WorldState) (ran : DrivenRun) (x : WorldState) (told_old told_new : Option (List ℕ)) : Type 0 where
+-- A run came to its end in x, or was stopped there, or the next step would violate a rule: these events came, so many at most.
+pub record Driven (comes : Conduct → WorldState → Extent → List Event → Type 0) (ends_at_halt : Bool) (most : ℕ) (c : Conduct) (stops : Stops) (known : List Event → Type 0) (breaks : Rule → Type 0) (recorded : List ℕ → Type 0) (w : WorldState) (ran : DrivenRun) (x : WorldState) (told_old told_new : Option (List ℕ)) : Type 0 where
   pub events : List Event
   pub stopped : Bool
   pub come : comes c w (extent_to_stop (stopped || is_some ran.broken)) (to_stop (stopped || is_some ran.broken) events)
@@ -88,6 +88,7 @@ pub record Driven (comes : Conduct → WorldState → Extent → List Event → 
   pub last : End
   pub follows : FollowsBy c ends_at_halt events w lines ran.outcome.steps last x
   pub ends : ran.outcome.end ≡ told stopped last x
+  pub few : length events ≤ most
   pub known_of : known events
   pub broke : IfSome ran.broken breaks
   pub recorded_of : recorded lines

@@ -1,16 +1,15 @@
 //! The loop that runs a machine.
 
-ghost use Rattle.std.specs.Prelude.{ℕ, ◌≡◌, ◌+◌, ◌≤◌, ◌<◌, ◌||◌, ◌%◌, ◌++◌, [], ◌∷◌, List, None, Option, false, drop, get_or, is_err, map, IfSome, IfOk, IfErr, OnOk};
-ghost use Rattle.std.specs.Io.KnownBytes.{Appends};
+ghost use Rattle.std.specs.Prelude.{ℕ, ◌≡◌, ◌+◌, ◌≤◌, ◌<◌, ◌||◌, ◌++◌, [], ◌∷◌, List, None, false, IfSome, IfOk, IfErr};
 ghost use Rattle.peripherals.specs.Devices.{WorldState};
 ghost use Rattle.peripherals.specs.World.{view, profile_of};
 ghost use Rattle.peripherals.specs.declared.Event.{Event};
 ghost use Rattle.peripherals.specs.declared.Seen.{Seen};
 ghost use Rattle.policy.specs.declared.rules.Rule.{Rule};
-ghost use Rattle.command_parts.specs.Faults.{IsRunFault, fails_to_read, fails_to_write};
-ghost use Rattle.machine_commands.specs.Driving.{Driven, IsTaken, Passes, Recorded, SameOptions, printed_from, trace_taken};
+ghost use Rattle.command_parts.specs.Faults.{fails_to_read, fails_to_write};
+ghost use Rattle.machine_commands.specs.Driving.{Driven, IsTaken, Passes, Recorded, SameOptions};
 ghost use Rattle.machine_commands.specs.Follows.{Conduct, counted, end_after, goes_on, profile_in, Usual};
-ghost use Rattle.machine_commands.specs.Session.{IsHeldFault, character};
+ghost use Rattle.machine_commands.specs.Session.{IsHeldFault};
 ghost use Rattle.machine_commands.specs.SessionParts.{is_step, steps_in};
 
 use crate::follow::{End, RunOutcome, end_of};
@@ -23,7 +22,7 @@ use command_parts::status::Fault;
 use peripherals::{Event, NoMemory, Seen, World};
 use policy::Rule;
 use std::alloc::Allocator;
-use streams::{ByteSink, Failed, put};
+use streams::{ByteSink, Failed};
 
 /// What came of an event.
 #[derive(Clone, Copy, PartialEq, Eq, Debug)]
@@ -139,69 +138,6 @@ fn ended(steps: u64, end: End) -> DrivenRun
     }
 }
 
-/// Types the byte that was printed after so many others, if there is one.
-#[inline(always)]
-fn type_from<T: ByteSink>(bytes: &[u8], from: usize, teletype: &mut T) -> Result<(), Failed>
-    requires unmarked { T.mark teletype.old ≡ false }
-    ensures whole { OnOk result (Appends (T.taken teletype.old) (T.taken teletype.new)
-        (map character (drop from bytes.now))) }
-    ensures marks { T.mark teletype.new ≡ is_err result }
-{
-    for index in from..bytes.len() {
-        put(teletype, &character_at(bytes, index))?;
-    }
-    Ok(())
-}
-
-/// The character of the byte with this index.
-fn character_at(bytes: &[u8], index: usize) -> [u8; 1]
-    ensures { result ≡ (get_or bytes.now index 0 % 128) ∷ [] }
-{
-    match bytes.get(index) {
-        Some(byte) => [*byte % 128],
-        None => [0],
-    }
-}
-
-/// Takes one event, adds its line to those that are requested, and types what it printed.
-#[inline(always)]
-fn play<A: Allocator, M: Machine<A>, N: Statements, K: Allocator + Copy, W: ByteSink, T: ByteSink>(
-    machine: &mut M,
-    recorder: &mut Recorder<'_, N, K>,
-    report: &mut W,
-    teletype: &mut T,
-    event: Event,
-) -> Result<Taken, Fault>
-    requires writable { W.mark report.old ≡ false }
-    requires typable { T.mark teletype.old ≡ false }
-    requires fits { M.fits machine.old }
-    ensures taken { IfOk result (IsTaken (M.conduct machine.old) (M.state machine.old) event
-        (M.state machine.new) (M.breaks machine.new)) }
-    ensures known { IfOk result (λ taken. (first : M) (events : List Event) (seen : Seen) →
-        taken ≡ Taken.Saw seen → M.known first events machine.old →
-        M.known first (events ++ event ∷ []) machine.new) }
-    ensures unknown { IfOk result (λ taken. (first : M) (events : List Event) (rule : Rule) →
-        taken ≡ Taken.Breaks rule → M.known first events machine.old →
-        M.known first events machine.new) }
-    ensures conduct { M.conduct machine.new ≡ M.conduct machine.old }
-    ensures fits { M.fits machine.new }
-    ensures recorded { IfOk result (λ taken. (lines : List ℕ) (first : Option (List ℕ)) →
-        Recorded recorder.old lines first (W.taken report.old) → Recorded recorder.new
-        (lines ++ trace_taken (M.conduct machine.old) taken (M.state machine.old) (M.state machine.new))
-        first (W.taken report.new)) }
-    ensures same { SameOptions recorder.old recorder.new }
-    ensures printed { OnOk result (Appends (T.taken teletype.old) (T.taken teletype.new)
-        (printed_from (M.state machine.old) (M.state machine.new))) }
-    ensures faults { IfErr result IsRunFault }
-    ensures marks { W.mark report.new || T.mark teletype.new ≡ fails_to_write result }
-    ensures silent { recorder.old.trace ≡ false → report.new ≡ report.old }
-{
-    let before = machine.world().printed().len();
-    let taken = advance(machine, recorder, report, event)?;
-    type_from(machine.world().printed(), before, teletype)?;
-    Ok(taken)
-}
-
 /// How many instructions were carried out by what was seen.
 #[inline(always)]
 fn counted(seen: &Seen) -> u64
@@ -292,7 +228,7 @@ pub(crate) fn drive<
     requires unprinted { (M.state machine.old).devices.printer.output ≡ [] }
     requires unrecorded { Recorded recorder.old [] (W.taken report.old) (W.taken report.old) }
     ensures ran { IfOk result (λ ran. Driven (S.brings schedule.old) (S.ends schedule.old)
-        (M.conduct machine.old) stops.now (λ events. M.known machine.old events machine.new)
+        (S.events_to_come schedule.old) (M.conduct machine.old) stops.now (λ events. M.known machine.old events machine.new)
         (M.breaks machine.new) (λ lines. Recorded recorder.new lines (W.taken report.old) (W.taken report.new))
         (M.state machine.old) ran (M.state machine.new) (T.taken teletype.old) (T.taken teletype.new)) }
     ensures same { SameOptions recorder.old recorder.new }
@@ -310,7 +246,7 @@ pub(crate) fn drive<
             return Ok(ended(steps, End::Stopped(machine.world().cpu().pc)));
         };
         visits = more;
-        match play(machine, recorder, report, teletype, event)? {
+        match advance(machine, recorder, report, teletype, event)? {
             Taken::Breaks(rule) => {
                 return Ok(DrivenRun {
                     outcome: RunOutcome {

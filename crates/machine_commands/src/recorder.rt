@@ -1,14 +1,15 @@
 //! The lines of the instructions of a run: all of them as they come, and the last ones when it is over.
 
-ghost use Rattle.std.specs.Prelude.{ℕ, ◌≡◌, ◌++◌, [], ◌∷◌, List, Option, false, IfErr, IfOk, OnOk};
+ghost use Rattle.std.specs.Prelude.{ℕ, ◌≡◌, ◌||◌, ◌%◌, ◌++◌, [], ◌∷◌, List, Option, false, drop, get_or, is_err, map, IfErr, IfOk, OnOk};
 ghost use Rattle.std.specs.Io.KnownBytes.{Appends};
 ghost use Rattle.processor.specs.Steps.{state_of};
 ghost use Rattle.peripherals.specs.declared.Event.{Event};
 ghost use Rattle.peripherals.specs.declared.Seen.{Seen};
 ghost use Rattle.policy.specs.declared.rules.Rule.{Rule};
 ghost use Rattle.command_parts.specs.Faults.{IsRunFault, fails_to_write};
-ghost use Rattle.machine_commands.specs.Driving.{IsTaken, IsWhole, KeepsIf, Recorded, SameOptions, most_of, trace_taken};
+ghost use Rattle.machine_commands.specs.Driving.{IsTaken, IsWhole, KeepsIf, Recorded, SameOptions, most_of, printed_from, trace_taken};
 ghost use Rattle.machine_commands.specs.Last.{last_of};
+ghost use Rattle.machine_commands.specs.Session.{character};
 ghost use Rattle.machine_commands.specs.Trace.{trace_line, traced};
 
 use crate::driving::{Machine, Taken};
@@ -20,7 +21,7 @@ use command_parts::status::Fault;
 use peripherals::{Event, Seen};
 use processor::Cpu;
 use std::alloc::{AllocError, Allocator};
-use streams::{ByteSink, put};
+use streams::{ByteSink, Failed, put};
 
 /// What is shown of the instructions of a run, beside a trace of all of them.
 #[derive(Clone, Copy)]
@@ -133,15 +134,48 @@ impl<N: Statements, A: Allocator + Copy> Recorder<'_, N, A> {
     }
 }
 
-/// Takes one event, and takes down the instruction that it carried out.
+/// Types the byte that was printed after so many others, if there is one.
 #[inline(always)]
-pub(crate) fn advance<A: Allocator, M: Machine<A>, N: Statements, K: Allocator + Copy, W: ByteSink>(
+fn type_from<T: ByteSink>(bytes: &[u8], from: usize, teletype: &mut T) -> Result<(), Failed>
+    requires unmarked { T.mark teletype.old ≡ false }
+    ensures whole { OnOk result (Appends (T.taken teletype.old) (T.taken teletype.new)
+        (map character (drop from bytes.now))) }
+    ensures marks { T.mark teletype.new ≡ is_err result }
+{
+    for index in from..bytes.len() {
+        put(teletype, &character_at(bytes, index))?;
+    }
+    Ok(())
+}
+
+/// The character of the byte with this index.
+fn character_at(bytes: &[u8], index: usize) -> [u8; 1]
+    ensures { result ≡ (get_or bytes.now index 0 % 128) ∷ [] }
+{
+    match bytes.get(index) {
+        Some(byte) => [*byte % 128],
+        None => [0],
+    }
+}
+
+/// Takes one event, takes down the instruction that it carried out, and types what it printed.
+#[inline(always)]
+pub(crate) fn advance<
+    A: Allocator,
+    M: Machine<A>,
+    N: Statements,
+    K: Allocator + Copy,
+    W: ByteSink,
+    T: ByteSink,
+>(
     machine: &mut M,
     recorder: &mut Recorder<'_, N, K>,
-    out: &mut W,
+    report: &mut W,
+    teletype: &mut T,
     event: Event,
 ) -> Result<Taken, Fault>
-    requires writable { W.mark out.old ≡ false }
+    requires writable { W.mark report.old ≡ false }
+    requires typable { T.mark teletype.old ≡ false }
     requires fits { M.fits machine.old }
     ensures taken { IfOk result (IsTaken (M.conduct machine.old) (M.state machine.old) event
         (M.state machine.new) (M.breaks machine.new)) }
@@ -154,21 +188,27 @@ pub(crate) fn advance<A: Allocator, M: Machine<A>, N: Statements, K: Allocator +
     ensures conduct { M.conduct machine.new ≡ M.conduct machine.old }
     ensures fits { M.fits machine.new }
     ensures recorded { IfOk result (λ taken. (lines : List ℕ) (first : Option (List ℕ)) →
-        Recorded recorder.old lines first (W.taken out.old) → Recorded recorder.new
+        Recorded recorder.old lines first (W.taken report.old) → Recorded recorder.new
         (lines ++ trace_taken (M.conduct machine.old) taken (M.state machine.old) (M.state machine.new))
-        first (W.taken out.new)) }
+        first (W.taken report.new)) }
     ensures same { SameOptions recorder.old recorder.new }
+    ensures printed { OnOk result (Appends (T.taken teletype.old) (T.taken teletype.new)
+        (printed_from (M.state machine.old) (M.state machine.new))) }
     ensures faults { IfErr result IsRunFault }
-    ensures marks { W.mark out.new ≡ fails_to_write result }
-    ensures silent { recorder.old.trace ≡ false → out.new ≡ out.old }
+    ensures marks { W.mark report.new || T.mark teletype.new ≡ fails_to_write result }
+    ensures silent { recorder.old.trace ≡ false → report.new ≡ report.old }
 {
+    let before = machine.world().printed().len();
     if recorder.is_quiet() {
-        return Ok(machine.take(event)?);
+        let taken = machine.take(event)?;
+        type_from(machine.world().printed(), before, teletype)?;
+        return Ok(taken);
     }
     let next = instruction_at(machine.world().cpu(), recorder.statements.is_some());
     let taken = machine.take(event)?;
     if matches!(taken, Taken::Saw(Seen::Ran | Seen::Halted)) {
-        recorder.record(&next, machine.world().cpu(), out)?;
+        recorder.record(&next, machine.world().cpu(), report)?;
     }
+    type_from(machine.world().printed(), before, teletype)?;
     Ok(taken)
 }

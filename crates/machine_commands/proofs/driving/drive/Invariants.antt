@@ -9,7 +9,7 @@ abbrev pub invariant-loop-event : goal.invariant-loop-event
 invariant-loop-event g l = record {
   un : Unstopped g.S.Scheduler.brings (g.S.Scheduler.ends l.initial.schedule) (g.M.Machine.conduct l.initial.machine) l.stops
       (λ (es : List Event). g.M.Machine.known l.initial.machine es l.machine) (λ (ls : List ℕ). Recorded l.recorder ls (g.W.ByteSink.taken l.initial.report) (g.W.ByteSink.taken l.report))
-      l.initial.schedule l.schedule (g.M.Machine.state l.initial.machine) (g.M.Machine.state l.machine) l.steps l.visits (g.T.ByteSink.taken l.initial.teletype) (g.T.ByteSink.taken l.teletype);
+      g.S.Scheduler.events_to_come l.initial.schedule l.schedule (g.M.Machine.state l.initial.machine) (g.M.Machine.state l.machine) l.steps l.visits (g.T.ByteSink.taken l.initial.teletype) (g.T.ByteSink.taken l.teletype);
   conduct : g.M.Machine.conduct l.machine ≡ g.M.Machine.conduct l.initial.machine;
   fits : g.M.Machine.fits l.machine;
   ends : g.S.Scheduler.ends l.schedule ≡ g.S.Scheduler.ends l.initial.schedule;

@@ -26,7 +26,7 @@ returns-clause-run g c =
       most = c.drive-ran.ensures.same.most ∙ c.new-recorder.ensures.most;
       lines = c.in_ok-last.ensures;
     } in
-    held (g.S.Scheduler.brings c.args.schedule.now) (g.S.Scheduler.ends c.args.schedule.now) plan.options plan.stops.now (shown_by plan.trace) plan.form (g.S.OperatorPresence.left c.drive-ran.new.schedule) plan.image.now _ (view c.load-world.result) (view c.drive-ran.new.machine) c.in_ok-came.came c.leaving-outcome.result c.status_of.result c.drive-ran.new.recorder _ c.in_ok-last.last.items _ _ _ _ _ _ _
+    held (g.S.Scheduler.brings c.args.schedule.now) (g.S.Scheduler.ends c.args.schedule.now) plan.options plan.stops.now (shown_by plan.trace) plan.form (g.S.OperatorPresence.left c.drive-ran.new.schedule) plan.image.now _ (view c.load-world.result) (view c.drive-ran.new.machine) c.in_ok-came.came c.leaving-outcome.result c.status_of.result c.drive-ran.new.recorder _ _ c.in_ok-last.last.items _ _ _ _ _ _ _
     profile begins c.in_ok-came.ensures.ran tells c.leaving-outcome.ensures.steps (rw c.has_left.ensures at c.leaving-outcome.ensures.end) c.status_of.ensures punched written
 
 pub returns-in_err-put-2-clause-front : goal.returns-in_err-put-2-clause-front
@@ -41,7 +41,7 @@ returns-in_err-put-2-clause-front g c = λ marked quiet.
       most = c.drive-ran.ensures.same.most ∙ c.new-recorder.ensures.most;
       lines = c.in_ok-last.ensures;
     } in
-    held_front (g.S.Scheduler.brings c.args.schedule.now) (g.S.Scheduler.ends c.args.schedule.now) plan.options plan.stops.now (shown_by plan.trace) plan.form (g.S.OperatorPresence.left c.drive-ran.new.schedule) plan.image.now _ (view c.load-world.result) (view c.drive-ran.new.machine) c.in_ok-came.came c.leaving-outcome.result c.drive-ran.new.recorder _ c.in_ok-last.last.items _ _ _ _ _
+    held_front (g.S.Scheduler.brings c.args.schedule.now) (g.S.Scheduler.ends c.args.schedule.now) plan.options plan.stops.now (shown_by plan.trace) plan.form (g.S.OperatorPresence.left c.drive-ran.new.schedule) plan.image.now _ (view c.load-world.result) (view c.drive-ran.new.machine) c.in_ok-came.came c.leaving-outcome.result c.drive-ran.new.recorder _ _ c.in_ok-last.last.items _ _ _ _ _
     profile begins c.in_ok-came.ensures.ran tells c.leaving-outcome.ensures.steps (rw c.has_left.ensures at c.leaving-outcome.ensures.end) quiet (search rules) front
 
 pub returns-in_err-put-clause-read_told : goal.returns-in_err-put-clause-read_told

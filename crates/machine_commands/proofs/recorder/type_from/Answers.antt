@@ -1,7 +1,7 @@
 use Rattle.std.proofs.Common.{rules, ◌<◌, ◌≤◌, ◌%◌, [], ◌∷◌, get_or, length, refl}
 use Rattle.std.specs.Io.KnownBytes.{Appends}
 use Rattle.machine_commands.proofs.SessionLemmas.{typed_all, typed_more, typed_none}
-use Rattle.machine_commands.proofs.driving.type_from.Goals as goal
+use Rattle.machine_commands.proofs.recorder.type_from.Goals as goal
 
 pub loop-index-init : goal.loop-index-init
 loop-index-init g c = record { typed = typed_none _ _ _; unmarked = c.requires.unmarked }

@@ -1,6 +1,6 @@
 use Rattle.std.proofs.Common.{◌≡◌, false}
 use Rattle.machine_commands.proofs.SessionLemmas.{Typed}
-use Rattle.machine_commands.proofs.driving.type_from.Given as goal
+use Rattle.machine_commands.proofs.recorder.type_from.Given as goal
 
 abbrev pub invariant-loop-index : goal.invariant-loop-index
 invariant-loop-index g l = record {

@@ -34,7 +34,7 @@ or_none : (b : Bool) (o : Option Rule) → o ≡ None → (b || is_some o) ≡ b
 or_none true o is = refl
 or_none false o is = ap is_some is
 
-last_so : (long : Bool) (last : Option ℕ) (lines text : List ℕ) → (long ≡ false → text ≡ last_of last lines) → IsLastSo long last lines text
+pub last_so : (long : Bool) (last : Option ℕ) (lines text : List ℕ) → (long ≡ false → text ≡ last_of last lines) → IsLastSo long last lines text
 last_so false last lines text is = is refl
 last_so true last lines text is = tt
 

@@ -1,5 +1,5 @@
 -- What a watched machine knows of the events that it took, and what is seen of its run.
-use Rattle.std.proofs.Common.{ℕ, zero, suc, ◌≡◌, ◌+◌, ◌<◌, Bool, true, false, ◌||◌, List, [], ◌∷◌, ◌++◌, length, take, Option, Some, None, refl, sym, ◌∙◌, ap, subst, append_assoc, append-nil, length-append, add-zero, inl, inr, arith}
+use Rattle.std.proofs.Common.{ℕ, zero, suc, ◌≡◌, ◌+◌, ◌<◌, ◌≤◌, Bool, true, false, ◌||◌, List, [], ◌∷◌, ◌++◌, length, take, Option, Some, None, refl, sym, ◌∙◌, ap, subst, append_assoc, append-nil, length-append, add-zero, inl, inr, arith}
 use Rattle.std.specs.Prelude.{IfSome, if◌then◌else◌, is_some, slice_get}
 use Rattle.std.proofs.lemmas.Option.{slice_get_within}
 use Rattle.instruct.specs.Instructions.{Meaning, And, Tad, Isz, Dca, Jms, Jmp, Group1, Group2, Group3, Device, Undefined}
@@ -18,18 +18,27 @@ use Rattle.policy.specs.Calls.{Calls}
 use Rattle.policy.specs.Rules.{IsSupported, KeepsCode}
 use Rattle.policy.specs.Runs.{DeclaredEvents, calls_by}
 use Rattle.policy.specs.Watching.{BreaksAt, IsClean, IsCleanBefore}
-use Rattle.policy.specs.WatchedSteps.{Goes, Stops}
+use Rattle.policy.specs.WatchedSteps.{Goes}
 use Rattle.policy.specs.declared.rules.Rule.{Rule}
 use Rattle.policy.proofs.CodeLemmas.{loaded_keeps}
 use Rattle.policy.proofs.WatchLemmas.{Taken, run_more, stopped, taken_more}
+use Rattle.command_parts.specs.declared.options.Stops.{Stops}
+use Rattle.command_parts.specs.declared.status.Status.{Status}
+use Rattle.machine_commands.specs.declared.driving.DrivenRun.{DrivenRun}
+use Rattle.machine_commands.specs.declared.follow.End.{End}
+use Rattle.machine_commands.specs.declared.recorder.Recorder.{Recorder}
+use Rattle.machine_commands.specs.Driving.{Driven, Recorded, most_of}
+use Rattle.machine_commands.specs.Last.{Shown, told}
 use Rattle.machine_commands.specs.Running.{fresh}
-use Rattle.machine_commands.specs.StoppedSession.{to_stop}
-use Rattle.machine_commands.specs.StoppedWatch.{watched_after}
-use Rattle.machine_commands.specs.WatchText.{IsSeen}
+use Rattle.machine_commands.specs.Schedule.{Extent}
+use Rattle.machine_commands.specs.StoppedSession.{StoppedSo, extent_to_stop, to_stop}
+use Rattle.machine_commands.specs.StoppedWatch.{BelowLine, IsWatchToStop, line_if_stopped, stopped_line, watched_after, watched_at}
+use Rattle.machine_commands.specs.WatchText.{IsSeen, watched_status}
+use Rattle.machine_commands.proofs.HoldLemmas.{last_so}
 use Rattle.machine_commands.specs.declared.watched.Progress.{Progress}
-use Rattle.machine_commands.specs.Continued.{press_of, presses}
-use Rattle.machine_commands.specs.Follows.{seen_declared}
-use Rattle.machine_commands.specs.WatchedRun.{Breaks, Counted, LedLegally, seen_after_step, seen_watched}
+use Rattle.machine_commands.specs.Continued.{line_text, press_of, presses}
+use Rattle.machine_commands.specs.Follows.{Conduct, Declared, FollowsBy, Ended, Stuck, Stopped, Went, end_at, seen_declared}
+use Rattle.machine_commands.specs.WatchedRun.{Breaks, Counted, IsBefore, LedLegally, seen_after_step, seen_watched}
 
 take_front : (es rest : List Event) → take (length es) (es ++ rest) ≡ es
 take_front [] rest = refl
@@ -144,3 +153,72 @@ counted_more es e first now after before one = record {
 
 pub counted_none : (p : Progress) → Counted [] p p
 counted_none p = record { all = λ few. omega arith; presses = λ few. omega arith }
+
+-- a run that is not stopped has no such line
+not_stopped_end : (c : Conduct) (h : Bool) (es : List Event) (w : WorldState) (lines : List ℕ) (n : ℕ) (last : End) (x v : WorldState) (steps : ℕ) → FollowsBy c h es w lines n last x → line_if_stopped last v steps ≡ []
+not_stopped_end c h es w lines n last x v steps (Ended _) = end_line w.halted_at w.state.pc
+  where
+    end_line : (halted : Option ℕ) (pc : ℕ) → line_if_stopped (end_at halted pc) v steps ≡ []
+    end_line None pc = refl
+    end_line (Some at) pc = refl
+not_stopped_end c h es w lines n last x v steps (Stuck _ _ _ _ word s a) = refl
+not_stopped_end c h es w lines n last x v steps (Stopped _ _ _ _ ends s a) = end_line x.halted_at x.state.pc
+  where
+    end_line : (halted : Option ℕ) (pc : ℕ) → line_if_stopped (end_at halted pc) v steps ≡ []
+    end_line None pc = refl
+    end_line (Some at) pc = refl
+not_stopped_end c h es w lines n last x v steps (Went _ fs _ m _ what ls k _ s on a f) = not_stopped_end c h fs m ls k last x v steps f
+
+stop_line : (stopped : Bool) (c : Conduct) (h : Bool) (es : List Event) (w : WorldState) (lines : List ℕ) (n : ℕ) (last ended : End) (x : WorldState) (steps : ℕ) → FollowsBy c h es w lines n last x → ended ≡ told stopped last x →
+    line_if_stopped ended x steps ≡ stopped_line stopped x steps
+stop_line true c h es w lines n last ended x steps follows is = rw is refl
+stop_line false c h es w lines n last ended x steps follows is = rw is (not_stopped_end c h es w lines n last x x steps follows)
+
+presses_within : (es : List Event) → presses es ≤ length es
+presses_within [] = omega arith
+presses_within (e ∷ es) = let rest = presses_within es in let one = press_within e in omega (arith, rest, one)
+  where
+    press_within : (e : Event) → press_of e ≤ 1
+    press_within Step = omega arith
+    press_within (Key byte) = omega arith
+    press_within PrinterDone = omega arith
+    press_within (ReaderDone byte) = omega arith
+    press_within PunchDone = omega arith
+    press_within (Switches word) = omega arith
+    press_within Continue = omega arith
+
+-- what is told of a watched run
+pub watch_told : {N A : Type 0} (comes : Conduct → WorldState → Extent → List Event → Type 0) (h : Bool) (most : ℕ) (continues : Option ℕ) (stops : Stops) (shown : Shown) (explained : Bool) (named : ℕ → Bool) (image : List (Option ℕ)) (d : Declaration) (w x : WorldState) (first_calls ks : Calls) (ran : DrivenRun) (status : Status) (line before details : List ℕ) (first now : Progress) (r : Recorder N A) (old new told_old told_new : Option (List ℕ)) →
+    w ≡ fresh image d.start → most < 18446744073709551616 → (driven : Driven comes h most (Declared d) stops (λ es. (first_calls ≡ [] → LedLegally d es w x ks) × Counted es first now) (Breaks d x ks) (λ ls. Recorded r ls old new) w ran x told_old told_new) →
+    first_calls ≡ [] → first.events ≡ 0 → first.presses ≡ 0 → is_some r.statements ≡ shown.long → most_of r.last ≡ shown.last → IsBefore r ran.outcome x before →
+    line ≡ line_text continues (watched_at ran.broken now.events) now.presses x → BelowLine explained named x details → status ≡ watched_status (watched_at ran.broken now.events) →
+    IsWatchToStop comes h continues stops shown explained named image d status (before ++ line) details
+watch_told comes h most continues stops shown explained named image d w x first_calls ks ran status line before details first now r old new told_old told_new begins bound driven uncalled none_before unpressed long last_is front line_is below is =
+    let known = driven.known_of in
+    let few = driven.few in
+    let presses_few = presses_within driven.events in
+    let events : now.events ≡ length driven.events = let all = known.1.all (omega (arith, few, bound, none_before)) in omega (arith, all, none_before) in
+    let pressed : now.presses ≡ presses driven.events = let all = known.1.presses (omega (arith, few, bound, presses_few, unpressed)) in omega (arith, all, unpressed) in
+    let come : comes (Declared d) w (extent_to_stop (driven.stopped || is_some ran.broken)) (to_stop (driven.stopped || is_some ran.broken) driven.events) = driven.come in
+    let stop : StoppedSo stops (Declared d) h driven.stopped driven.events w = driven.stop in
+    let follows : FollowsBy (Declared d) h driven.events w driven.lines ran.outcome.steps driven.last x = driven.follows in
+    let stopping = stop_line driven.stopped (Declared d) h driven.events w driven.lines ran.outcome.steps driven.last ran.outcome.end x ran.outcome.steps driven.follows driven.ends in
+    let tail : line ≡ line_text continues (watched_after ran.broken driven.events) (presses driven.events) x = rw (events, pressed) at line_is in
+    record {
+      events = driven.events;
+      stopped = driven.stopped;
+      broken = ran.broken;
+      come = rw begins at come;
+      stop = rw begins at stop;
+      sees = sees image d driven.events w x ks ran.broken begins (known.0 uncalled) driven.broke;
+      lines = driven.lines;
+      steps = ran.outcome.steps;
+      last = driven.last;
+      final = x;
+      follows = rw begins at follows;
+      kept = front.kept;
+      is_last = last_so shown.long shown.last driven.lines front.kept (λ short. rw last_is at (front.kept_is driven.lines (driven.recorded_of.kept (long ∙ short))));
+      text_is = rw (front.text_is, stopping, tail) (append_assoc front.kept (stopped_line driven.stopped x ran.outcome.steps) (line_text continues (watched_after ran.broken driven.events) (presses driven.events) x));
+      below = below;
+      status_is = rw events at is;
+    }

@@ -21,10 +21,25 @@ use Rattle.machine_commands.specs.StoppedSession.{StoppedSo, extent_to_stop, to_
 use Rattle.machine_commands.specs.Summary.{cells_text, state_line}
 use Rattle.machine_commands.specs.WatchText.{IsSeen, watched_status}
 
--- What is seen of a run whose next step would violate this rule, if it would, after these events.
+-- What is seen of a run whose next step would violate this rule, if it would, after so many events.
+abbrev pub watched_at : Option Rule → ℕ → Watched
+watched_at None count = Clean
+watched_at (Some r) count = Broken count r
+
+-- The same, after these events.
 abbrev pub watched_after : Option Rule → List Event → Watched
-watched_after None events = Clean
-watched_after (Some r) events = Broken (length events) r
+watched_after broken events = watched_at broken (length events)
+
+-- The line of a run that ended so, if it was stopped.
+abbrev pub line_if_stopped : End → WorldState → ℕ → List ℕ
+line_if_stopped (end.Stopped at) w steps = state_line (end.Stopped at) w steps
+line_if_stopped _ w steps = []
+
+-- What is told below the line: what explains it, only if that is requested, and the named cells with their words.
+pub record BelowLine (explained : Bool) (named : ℕ → Bool) (w : WorldState) (text : List ℕ) : Type 0 where
+  pub why : List ℕ
+  pub unexplained : explained ≡ false → why ≡ []
+  pub text_is : text ≡ why ++ cells_text named w
 
 -- The line that says where a run was stopped, if it was.
 abbrev pub stopped_line : Bool → WorldState → ℕ → List ℕ
@@ -50,9 +65,7 @@ pub record IsWatchToStop (comes : Conduct → WorldState → Extent → List Eve
   pub kept : List ℕ
   pub is_last : IsLast shown lines kept
   pub text_is : text ≡ kept ++ (stopped_line stopped final steps ++ line_text continues (watched_after broken events) (presses events) final)
-  pub why : List ℕ
-  pub unexplained : explained ≡ false → why ≡ []
-  pub details_is : details ≡ why ++ cells_text named final
+  pub below : BelowLine explained named final details
   pub status_is : status ≡ watched_status (watched_after broken events)
 
 -- The events that come are those of a list.

@@ -12,7 +12,12 @@ use Rattle.policy.specs.Rules.{KeepsCode}
 use Rattle.policy.specs.Runs.{DeclaredEvents}
 use Rattle.policy.specs.Watching.{IsCleanBefore, IsLeastBroken}
 use Rattle.policy.specs.declared.rules.Rule.{Rule}
+use Rattle.machine_commands.specs.declared.follow.RunOutcome.{RunOutcome}
+use Rattle.machine_commands.specs.declared.recorder.Recorder.{Recorder}
 use Rattle.machine_commands.specs.Continued.{presses}
+use Rattle.machine_commands.specs.Driving.{KeepsIf, most_of}
+use Rattle.machine_commands.specs.Last.{last_of}
+use Rattle.machine_commands.specs.StoppedWatch.{line_if_stopped}
 use Rattle.machine_commands.specs.declared.watched.Progress.{Progress}
 
 -- These events of a declared run lead from w, with no call open, to x, and each enabled step among them is legal, if fixed code is as the tape
@@ -26,6 +31,12 @@ pub record LedLegally (d : Declaration) (events : List Event) (w x : WorldState)
 pub record Counted (events : List Event) (before after : Progress) : Type 0 where
   pub all : before.events + length events < 18446744073709551616 → after.events ≡ before.events + length events
   pub presses : before.presses + presses events < 18446744073709551616 → after.presses ≡ before.presses + presses events
+
+-- What comes before the line of a watched run: the last lines, and the line that says where it was stopped.
+pub record IsBefore {N A : Type 0} (r : Recorder N A) (outcome : RunOutcome) (w : WorldState) (text : List ℕ) : Type 0 where
+  pub kept : List ℕ
+  pub kept_is : (lines : List ℕ) → KeepsIf r.last lines → kept ≡ last_of (most_of r.last) lines
+  pub text_is : text ≡ kept ++ line_if_stopped outcome.end w outcome.steps
 
 -- What is seen of a step that is legal, of a machine that was halted or not, and is then.
 abbrev pub seen_after_step : Bool → Option ℕ → Seen

@@ -1,15 +1,17 @@
 //! What is told of a watched run up to where it is stopped, with its last instructions.
 
-ghost use Rattle.std.specs.Prelude.{◌≡◌, ◌++◌, ◌<◌, ◌||◌, None, false, codes, decimal, IfOk, IfErr, OnOk};
+ghost use Rattle.std.specs.Prelude.{◌≡◌, ◌<◌, None, false, IfOk, IfErr};
 ghost use Rattle.wordset.specs.Lanes.{words};
 ghost use Rattle.declaration.specs.DeclarationInCode.{meaning};
-ghost use Rattle.peripherals.specs.World.{view};
+ghost use Rattle.peripherals.specs.World.{profile_of, view};
+ghost use Rattle.policy.specs.OpenCalls.{machine_of};
 ghost use Rattle.command_parts.specs.Answers.{IsMemoryFault};
 ghost use Rattle.command_parts.specs.Messages.{plain};
 ghost use Rattle.machine_commands.specs.Continued.{line_text, went_text};
+ghost use Rattle.machine_commands.specs.WatchedRun.{IsBefore};
 ghost use Rattle.machine_commands.specs.Session.{plan_for};
 ghost use Rattle.machine_commands.specs.StoppedSession.{shown_by};
-ghost use Rattle.machine_commands.specs.StoppedWatch.{IsListToStop, IsPlanToStop, IsWatchToStop};
+ghost use Rattle.machine_commands.specs.StoppedWatch.{BelowLine, IsListToStop, IsPlanToStop, IsWatchToStop, watched_at};
 
 use crate::driving::{DrivenRun, Machine, Nowhere, drive};
 use crate::follow::{Course, End};
@@ -72,7 +74,9 @@ pub(crate) fn run_quietly<A: Allocator + Copy, D: Allocator>(
 }
 
 /// What is seen of a watched run in which so many events came.
-fn watched_of(ran: &DrivenRun, events: usize) -> Watched {
+fn watched_of(ran: &DrivenRun, events: usize) -> Watched
+    ensures { result ≡ watched_at ran.now.broken events }
+{
     match ran.broken {
         None => Watched::Clean,
         Some(rule) => Watched::Broken {
@@ -131,7 +135,9 @@ fn lines_before<N, A: Allocator + Copy, B: Allocator>(
     recorder: &Recorder<'_, N, A>,
     ran: &DrivenRun,
     world: &World<B>,
-) -> Result<Vec<u8, A>, AllocError> {
+) -> Result<Vec<u8, A>, AllocError>
+    ensures { IfOk result (λ text. IsBefore recorder.now ran.now.outcome (view world.now) text.items) }
+{
     let mut lines = recorder.last_lines()?;
     if matches!(ran.outcome.end, End::Stopped(_)) {
         push_state(&mut lines, &ran.outcome, world)?;
@@ -148,7 +154,11 @@ fn details_of<N, A: Allocator + Copy, D: Allocator>(
     ran: &DrivenRun,
     offered: AvailableInput,
     telling: &WatchOptions<'_, N>,
-) -> Result<Message<A>, AllocError> {
+) -> Result<Message<A>, AllocError>
+    requires { profile_of machine.now.watcher.world ≡ (meaning machine.now.declaration.now).profile }
+    ensures { IfOk result (λ text. BelowLine telling.now.explained (words telling.now.show.now)
+        (machine_of machine.now.watcher) (plain text)) }
+{
     let mut details = Message::new(alloc);
     if telling.explained {
         let (steps, came) = (ran.outcome.steps, machine.came());
@@ -174,7 +184,8 @@ fn watch_by<S: Scheduler, N: Statements, A: Allocator + Copy, D: Allocator>(
     telling: &WatchOptions<'_, N>,
 ) -> Result<RunMessage<A>, Fault>
     requires readable { S.unread schedule.old ≡ false }
-    requires few { S.steps_to_come schedule.old < 18446744073709551616 }
+    requires few { S.events_to_come schedule.old < 18446744073709551616 }
+    requires few_steps { S.steps_to_come schedule.old < 18446744073709551616 }
     ensures told { IfOk result (λ run. IsWatchToStop (S.brings schedule.old) (S.ends schedule.old) continues
         telling.now.stops.now (shown_by telling.now.trace) telling.now.explained
         (words telling.now.show.now) image.now (meaning declaration.now)

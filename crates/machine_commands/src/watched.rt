@@ -70,6 +70,8 @@ impl<'d, A: Allocator, D: Allocator> WatchedMachine<'d, A, D> {
         ensures machine { machine_of result.watcher
             ≡ fresh image.now (meaning declaration.now).start }
         ensures calls { calls_of result.watcher ≡ [] }
+        ensures events { result.came.events ≡ 0 }
+        ensures presses { result.came.presses ≡ 0 }
         ensures profile { profile_of result.watcher.world ≡ (meaning declaration.now).profile }
         ensures declaration { result.declaration.now ≡ declaration.now }
     {

@@ -1,6 +1,6 @@
 //! What a run goes through, and how far it came.
 
-ghost use Rattle.std.specs.Prelude.{◌≡◌, ◌<◌, get_or, length};
+ghost use Rattle.std.specs.Prelude.{◌≡◌, length, slice_get};
 ghost use Rattle.peripherals.specs.World.{view};
 ghost use Rattle.machine_commands.specs.Follows.{end_of};
 ghost use Rattle.machine_commands.specs.Course.{ends_at_halt, event_of_round, events_in};
@@ -55,18 +55,20 @@ impl Course<'_> {
         }
     }
 
-    /// The event with this index.
-    #[tactic(auto, using(crate::proofs::CourseLemmas::rounds_at))]
-    pub fn event(&self, index: usize) -> Event
-        requires { index < length (events_in self.now) }
-        ensures { result ≡ get_or (events_in self.now) index Event.Step }
+    /// The event with this index, if there is one.
+    #[tactic(auto, using(crate::proofs::CourseLemmas::rounds_some, crate::proofs::CourseLemmas::rounds_none))]
+    pub fn event(&self, index: usize) -> Option<Event>
+        ensures { result ≡ slice_get (events_in self.now) index }
     {
         match self {
-            Course::Rounds(_) => event_of_round(index % 3),
-            Course::Listed(events) => match events.get(index) {
-                Some(event) => *event,
-                None => Event::Step,
-            },
+            Course::Rounds(count) => {
+                if index / 3 < *count as usize {
+                    Some(event_of_round(index % 3))
+                } else {
+                    None
+                }
+            }
+            Course::Listed(events) => events.get(index).copied(),
         }
     }
 

@@ -97,12 +97,13 @@ impl Scheduler for CourseSchedule<'_> {
 
     #[inline(always)]
     fn next_event<A: Allocator>(&mut self, _: &World<A>) -> Result<Option<Event>, Fault> {
-        if self.index >= self.course.len() {
-            return Ok(None);
+        match self.course.event(self.index) {
+            None => Ok(None),
+            Some(event) => {
+                self.index += 1;
+                Ok(Some(event))
+            }
         }
-        let event = self.course.event(self.index);
-        self.index += 1;
-        Ok(Some(event))
     }
 
     #[inline(always)]

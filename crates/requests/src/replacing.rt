@@ -154,6 +154,7 @@ fn replace<R: Files>(
     }
     file.write_all(bytes)?;
     file.sync_all()?;
+    drop(file);
     fs::rename(rt, &beside.name, path)?;
     beside.name.clear();
     Ok(())

@@ -254,11 +254,8 @@ fn push_returns<L: MessageWriter, D: Allocator, C: Allocator>(
         }
         let by = [Address(entry), Offset(offset)];
         push_sentence(text, "The routine {} returns with offset {}; ", &by)?;
-        push_sentence(
-            text,
-            said_of_accumulator(&accumulator),
-            &[Words(&accumulator)],
-        )?;
+        let words = [Words(&accumulator)];
+        push_sentence(text, said_of_accumulator(&accumulator), &words)?;
         let link = said_of_link(&shown.returned(Register::Link, entry, offset));
         push_sentence(text, ", and the link {}\n", &[Text(link)])?;
     }

@@ -74,7 +74,8 @@ fn push_possible<L: MessageWriter>(
             push_excluded(text, gap, one)
         }
         LandingFailure::NotTaken(link, name, word) => {
-            push_sentence(text, "if the link is {}, ", &[Digit(*link)])?;
+            let under = [Digit(*link)];
+            push_sentence(text, "if the link is {}, ", &under)?;
             push_may_hold(text, name, *word)?;
             push_sentence(text, ", which none of {} allows", &[Text(all)])
         }

@@ -1,3 +1,4 @@
+pub mod ContinuedLemmas
 pub mod CourseLemmas
 pub mod DriveLemmas
 pub mod HeldLemmas

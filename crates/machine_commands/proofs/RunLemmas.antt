@@ -84,15 +84,31 @@ front_stops stops p h extent visits count (d ∷ es) front w (Then _ _ m e fs du
     rw (first_is d e due) (Later visits k e es w m off on happens (front_stops stops p h extent (visits_with stops visits w e) k es fs m rest more))
 
 -- what comes of a list are its first events
-first_ones : (p : Profile) (h : Bool) (extent : Extent) (es front rest : List Event) (w : WorldState) → listed h es (Usual p) w extent (front ++ rest) → take (length front) es ≡ front
-first_ones p h extent es [] rest w come = refl
-first_ones p h extent [] (e ∷ front) rest w (Due _ _ due step) = cc
-first_ones p h extent (d ∷ es) (e ∷ []) rest w (Due _ _ due step) = ap (λ (f : Event). f ∷ []) (first_is d e due)
-first_ones p h extent [] (e ∷ front) rest w (Final _ _ _ due over) = cc
-first_ones p h extent (d ∷ es) (e ∷ []) rest w (Final _ _ _ due over) = ap (λ (f : Event). f ∷ []) (first_is d e due)
-first_ones p h extent [] (e ∷ front) rest w (Then _ _ m _ _ due goes happens later) = cc
-first_ones p h extent (d ∷ es) (e ∷ front) rest w (Then _ _ m _ _ due goes happens later) =
-    ap (λ (f : Event). f ∷ take (length front) es) (first_is d e due) ∙ ap (λ (fs : List Event). e ∷ fs) (first_ones p h extent es front rest m later)
+joined : (d e : Event) (ds es : List Event) → d ≡ e → ds ≡ es → d ∷ ds ≡ e ∷ es
+joined d e ds es head tail = rw (head, tail) refl
+
+head_is : (d e : Event) (ds es : List Event) → d ∷ ds ≡ e ∷ es → d ≡ e
+head_is d e ds es is = cc
+
+tail_is : (d e : Event) (ds es : List Event) → d ∷ ds ≡ e ∷ es → ds ≡ es
+tail_is d e ds es is = cc
+
+taken_none : (front rest es : List Event) → [] ≡ front ++ rest → take (length front) es ≡ front
+taken_none [] rest es is = refl
+taken_none (e ∷ front) rest es is = cc
+
+first_ones : (p : Profile) (h : Bool) (extent : Extent) (es all front rest : List Event) (w : WorldState) → all ≡ front ++ rest → listed h es (Usual p) w extent all → take (length front) es ≡ front
+first_ones p h extent es all [] rest w is come = refl
+first_ones p h extent es all (e ∷ front) rest w is (Over _ _ none) = cc
+first_ones p h extent [] all (e ∷ front) rest w is (Due _ _ due step) = cc
+first_ones p h extent (d ∷ es) all (e ∷ front) rest w is (Due _ _ due step) =
+    joined d e (take (length front) es) front (first_is d Step due ∙ head_is Step e [] (front ++ rest) is) (taken_none front rest es (tail_is Step e [] (front ++ rest) is))
+first_ones p h extent [] all (e ∷ front) rest w is (Final _ _ f due over) = cc
+first_ones p h extent (d ∷ es) all (e ∷ front) rest w is (Final _ _ f due over) =
+    joined d e (take (length front) es) front (first_is d f due ∙ head_is f e [] (front ++ rest) is) (taken_none front rest es (tail_is f e [] (front ++ rest) is))
+first_ones p h extent [] all (e ∷ front) rest w is (Then _ _ m f fs due goes happens later) = cc
+first_ones p h extent (d ∷ es) all (e ∷ front) rest w is (Then _ _ m f fs due goes happens later) =
+    joined d e (take (length front) es) front (first_is d f due ∙ head_is f e fs (front ++ rest) is) (first_ones p h extent es fs front rest m (tail_is f e fs (front ++ rest) is) later)
 
 -- a run by a course that is held is one with stops
 held_cut : (options : RunOptions) (stops : Stops) (shown : Shown) (h : Bool) (es : List Event) (image : List (Option ℕ)) (text printed punched : List ℕ) (status : Status) →
@@ -108,7 +124,7 @@ held_cut options stops shown h es image text printed punched status held = by_st
         record {
           cut = held.events;
           stopped = true;
-          is_cut = inl (length held.events, front_stops stops options.profile h ToStep 0 (length held.events) es (held.events ++ Step ∷ []) w come stop, sym (first_ones options.profile h ToStep es held.events (Step ∷ []) w come), refl);
+          is_cut = inl (length held.events, front_stops stops options.profile h ToStep 0 (length held.events) es (held.events ++ Step ∷ []) w come stop, sym (first_ones options.profile h ToStep es (held.events ++ Step ∷ []) held.events (Step ∷ []) w refl come), refl);
           is = record { lines = held.lines; steps = held.steps; end = held.end; final = held.final; follows = held.follows; during = held.during; is_traced = held.is_traced; last = held.last; is_last = held.is_last; text_is = rw is at held.text_is; status_is = rw is at held.status_is };
         }
     by_stop false is =

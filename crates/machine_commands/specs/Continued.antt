@@ -25,14 +25,14 @@ abbrev pub pressing_due : Declaration → Pressing → WorldState → Option ℕ
 pressing_due d s w None = operating.due s.place w
 pressing_due d s w (Some at) = if d.pause at && not (s.left == 0) then Some Continue else None
 
--- A press is used up by CONTINUE, and any other event is the operator's.
-abbrev pub pressing_after : Pressing → WorldState → Event → Pressing
-pressing_after s w Continue = record s { left = s.left - 1 }
-pressing_after s w e = record s { place = operating.after s.place w e }
+-- While the machine runs an event is the operator's, and where it is halted a press is used up.
+abbrev pub pressing_after : Pressing → WorldState → Option ℕ → Event → Pressing
+pressing_after s w None e = record s { place = operating.after s.place w e }
+pressing_after s w (Some at) e = record s { left = s.left - 1 }
 
 -- The schedule of an operator who presses CONTINUE at declared pauses.
 abbrev pub continuing : Declaration → Schedule Pressing
-continuing d = record { due = λ s w. pressing_due d s w w.halted_at; after = λ s w e. pressing_after s w e }
+continuing d = record { due = λ s w. pressing_due d s w w.halted_at; after = λ s w e. pressing_after s w w.halted_at e }
 
 -- How often CONTINUE is pressed by an event.
 abbrev pub press_of : Event → ℕ

@@ -1,6 +1,6 @@
 -- A run by a schedule, event by event.
 use Rattle.std.proofs.Common.{ℕ, zero, suc, ◌≡◌, ◌+◌, ◌<◌, ◌≤◌, Bool, true, false, ◌||◌, List, [], ◌∷◌, ◌++◌, length, refl, sym, ◌∙◌, ap, append_assoc, append-nil, add_assoc, add-zero, zero-add, length-append, arith, Some, None, Option, true≢false}
-use Rattle.std.specs.Prelude.{IfSome, is_some}
+use Rattle.std.specs.Prelude.{IfSome, is_some, not}
 use Rattle.std.specs.Io.KnownBytes.{Appends}
 use Rattle.std.proofs.KnownBytes.{Appends-nil, Appends-trans}
 use Rattle.instruct.specs.declared.Profile.{Profile}
@@ -23,11 +23,12 @@ use Rattle.machine_commands.specs.Schedule.{Extent, ToStep, Whole}
 use Rattle.machine_commands.specs.Session.{printed_in}
 use Rattle.machine_commands.specs.SessionParts.{IsNext, is_step, steps_in}
 use Rattle.machine_commands.specs.StoppedSession.{StoppedSo, extent_to_stop, to_stop}
-use Rattle.machine_commands.specs.Stops.{Ends, Continues, Here, Later, NeverStops, Over, StopsAfter, stops_before, visits_with}
+use Rattle.machine_commands.specs.Stops.{AreNone, Ends, Continues, Here, Later, NeverStops, Over, StopsAfter, stops_before, visits_with}
+use Rattle.machine_commands.proofs.StopLawLemmas.{none_passes}
 use Rattle.machine_commands.proofs.SessionLemmas.{one_more, printed_next, printed_none}
 
 -- any other event does not
-pub passes_other : (stops : Stops) (p : Profile) (visits : ℕ) (w : WorldState) (e : Event) → is_step e ≡ false → Passes stops p visits w e (Some visits)
+passes_other : (stops : Stops) (p : Profile) (visits : ℕ) (w : WorldState) (e : Event) → is_step e ≡ false → Passes stops p visits w e (Some visits)
 passes_other stops p visits w Step other = absurd (true≢false other)
 passes_other stops p visits w (Key byte) other = (refl, refl)
 passes_other stops p visits w PrinterDone other = (refl, refl)
@@ -35,6 +36,12 @@ passes_other stops p visits w (ReaderDone byte) other = (refl, refl)
 passes_other stops p visits w PunchDone other = (refl, refl)
 passes_other stops p visits w (Switches word) other = (refl, refl)
 passes_other stops p visits w Continue other = (refl, refl)
+
+-- a run without stops, or an event that is no step
+pub passes_without : (stopping step : Bool) (stops : Stops) (p : Profile) (visits : ℕ) (w : WorldState) (e : Event) → (not stopping || not step) ≡ true → step ≡ is_step e → (stopping ≡ false → AreNone stops) → Passes stops p visits w e (Some visits)
+passes_without false step stops p visits w e is same none = none_passes stops p visits w e (none refl)
+passes_without true false stops p visits w e is same none = passes_other stops p visits w e (sym same)
+passes_without true true stops p visits w e is same none = absurd (true≢false (sym is))
 
 pub step_is : (e : Event) → is_step e ≡ true → e ≡ Step
 step_is Step is = refl

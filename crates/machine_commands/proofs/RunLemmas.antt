@@ -17,10 +17,9 @@ use Rattle.machine_commands.specs.Last.{Shown, no_last}
 use Rattle.machine_commands.specs.Running.{IsRunOf, fresh}
 use Rattle.machine_commands.specs.Schedule.{ComesBy, Over, Due, Final, Then, Extent, ToStep, Whole, first_of, listing}
 use Rattle.machine_commands.specs.Session.{WritesAll, taken}
-use Rattle.machine_commands.specs.StopLaws.{AreNone}
 use Rattle.machine_commands.specs.StoppedSession.{IsHeldToStop}
 use Rattle.machine_commands.specs.Stopping.{IsCut, IsRunWithStops}
-use Rattle.machine_commands.specs.Stops.{NeverStops, StopsAfter, Here, Later, Ends, Continues, stops_before, visits_with}
+use Rattle.machine_commands.specs.Stops.{AreNone, NeverStops, StopsAfter, Here, Later, Ends, Continues, stops_before, visits_with}
 use Rattle.machine_commands.specs.Summary.{whole_form}
 use Rattle.machine_commands.proofs.StopLawLemmas.{none_after, not_halted, not_stuck}
 

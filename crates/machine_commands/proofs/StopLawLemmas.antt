@@ -1,5 +1,5 @@
 -- A run that is stopped is the run without stops up to there.
-use Rattle.std.proofs.Common.{ℕ, suc, ◌≡◌, ◌+◌, ◌==◌, Bool, true, false, ◌&&◌, ◌||◌, List, [], ◌∷◌, ◌++◌, length, take, drop, Option, None, refl, sym, ap, ◌∙◌, subst, append_assoc, zero-add, arith}
+use Rattle.std.proofs.Common.{ℕ, suc, ◌≡◌, ◌+◌, ◌==◌, Bool, true, false, ◌&&◌, ◌||◌, List, [], ◌∷◌, ◌++◌, length, take, drop, Option, Some, None, inl, inr, refl, sym, ap, ◌∙◌, subst, append_assoc, zero-add, arith}
 use Rattle.std.specs.Prelude.{is_none}
 use Rattle.instruct.specs.declared.Profile.{Profile}
 use Rattle.command_parts.specs.declared.options.RunOptions.{RunOptions}
@@ -11,7 +11,8 @@ use Rattle.processor.specs.declared.fetch.DecodedInstruction.{DecodedInstruction
 use Rattle.processor.specs.declared.fetch.DecodedInstruction.TheVariants.{Refers, Operate1, Operate2, Operate3, Device, Unsupported}
 use Rattle.processor.specs.Fetch.{fetched}
 use Rattle.wordset.specs.Lanes.{words}
-use Rattle.wordset.specs.Words.{Words, nothing}
+use Rattle.wordset.specs.Words.{IsWithin, Words, nothing}
+use Rattle.wordset.proofs.SetLemmas.{words_are}
 use Rattle.peripherals.specs.declared.Event.{Event}
 use Rattle.peripherals.specs.declared.Event.TheVariants.{Step, Key, PrinterDone, ReaderDone, PunchDone, Switches, Continue}
 use Rattle.peripherals.specs.declared.Seen.{Seen}
@@ -21,17 +22,18 @@ use Rattle.peripherals.specs.Events.{Happens}
 use Rattle.peripherals.specs.EventOutcomes.{seen_of}
 use Rattle.peripherals.proofs.OneLemmas.{one_world}
 use Rattle.machine_commands.specs.declared.follow.End.{End}
+use Rattle.machine_commands.specs.Driving.{Passes}
 use Rattle.machine_commands.specs.Follows.{Conduct, Follows, Ended, Stuck, Stopped, Usual, Went, counted, goes_on}
 use Rattle.machine_commands.specs.Last.{no_last}
 use Rattle.machine_commands.specs.Running.{fresh}
-use Rattle.machine_commands.specs.StopLaws.{AreNone, GoesOnTo, SessionsWithoutStops, StoppedIsNotNever, StoppedRunsAreFronts, StopsAreOne, TypedWithoutStops}
+use Rattle.machine_commands.specs.StopLaws.{GoesOnTo, SessionsWithoutStops, StoppedIsNotNever, StoppedRunsAreFronts, StopsAreOne, TypedWithoutStops}
 use Rattle.machine_commands.specs.Schedule.{Extent}
 use Rattle.machine_commands.specs.Session.{IsHeld, brought_by}
 use Rattle.machine_commands.specs.StoppedSession.{IsHeldToStop, StoppedSo}
 use Rattle.machine_commands.specs.Teletype.{run_of, typed_by}
-use Rattle.machine_commands.specs.Stops.{Ends, Continues, Here, Later, NeverStops, StopsAfter, is_asked_for, is_at, loads_there, reads_one, stores_there, stops_before, visits_with, writes_one}
+use Rattle.machine_commands.specs.Stops.{AreNone, Ends, Continues, Here, Later, NeverStops, StopsAfter, is_asked_for, is_at, loads_there, reads_one, stores_there, stops_before, visits_with, writes_one}
 use Rattle.machine_commands.specs.Trace.{trace_of, traced}
-use Rattle.std.proofs.lemmas.Bool.{true≢false}
+use Rattle.std.proofs.lemmas.Bool.{cases_Bool, true≢false}
 
 -- a run that goes on is neither stuck nor over
 pub not_stuck : (h : Bool) (what : Seen) (word : ℕ) → what ≡ seen.Unsupported word → goes_on h what ≡ true → ⊥
@@ -148,7 +150,7 @@ asked_of_none place written read pc visits times d nowhere none_written none_rea
 none_asked : (stops : Stops) (p : Profile) (visits : ℕ) (s : State) → AreNone stops → is_asked_for stops p visits s ≡ false
 none_asked stops p visits s none = asked_of_none stops.place (words stops.written) (words stops.read) s.pc visits stops.times (fetched p s) none.place none.written none.read
 
-none_stops : (stops : Stops) (p : Profile) (visits : ℕ) (w : WorldState) (e : Event) → AreNone stops → stops_before stops p visits w e ≡ false
+pub none_stops : (stops : Stops) (p : Profile) (visits : ℕ) (w : WorldState) (e : Event) → AreNone stops → stops_before stops p visits w e ≡ false
 none_stops stops p visits w Step none =
     ap (λ (asked : Bool). is_none w.halted_at && asked) (none_asked stops p visits w.state none) ∙ and_false (is_none w.halted_at)
 none_stops stops p visits w (Key byte) none = refl
@@ -193,3 +195,23 @@ sessions_without_stops options stops form plan image text printed punched status
 pub typed_without_stops : TypedWithoutStops
 typed_without_stops options stops form frames bytes image text printed punched status none held =
     held_without_stops (typed_by options frames bytes) (run_of options) stops form image text printed punched status none held
+
+-- where there are no stops each event passes, and no visit counts
+none_visits : (stops : Stops) (visits : ℕ) (w : WorldState) (e : Event) → AreNone stops → visits ≡ visits_with stops visits w e
+none_visits stops visits w Step none = rw (none.place, and_false (is_none w.halted_at)) refl
+none_visits stops visits w (Key byte) none = refl
+none_visits stops visits w PrinterDone none = refl
+none_visits stops visits w (ReaderDone byte) none = refl
+none_visits stops visits w PunchDone none = refl
+none_visits stops visits w (Switches word) none = refl
+none_visits stops visits w Continue none = refl
+
+pub none_passes : (stops : Stops) (p : Profile) (visits : ℕ) (w : WorldState) (e : Event) → AreNone stops → Passes stops p visits w e (Some visits)
+none_passes stops p visits w e none = (none_stops stops p visits w e none, none_visits stops visits w e none)
+
+-- a set within nothing is nothing
+pub within_none : (lanes : List ℕ) → IsWithin (words lanes) nothing → words lanes ≡ nothing
+within_none lanes within = words_are lanes nothing (λ v past. refl) (λ v h. elim (cases_Bool (words lanes v)) [
+  | inl is ↦ absurd (true≢false (sym (within v h is)))
+  | inr is ↦ is
+])

@@ -1,8 +1,6 @@
 -- What stops change in a run: nothing up to the step that stops it, and nothing at all where there are none.
 use Rattle.std.specs.Prelude.{ℕ, ◌≡◌, ◌+◌, Bool, false, List, ◌++◌, Option, None, drop, take}
 use Rattle.instruct.specs.declared.Profile.{Profile}
-use Rattle.wordset.specs.Lanes.{words}
-use Rattle.wordset.specs.Words.{nothing}
 use Rattle.command_parts.specs.declared.options.RunOptions.{RunOptions}
 use Rattle.command_parts.specs.declared.options.Stops.{Stops}
 use Rattle.command_parts.specs.declared.options.SummaryForm.{SummaryForm}
@@ -16,7 +14,7 @@ use Rattle.machine_commands.specs.Follows.{Follows, Usual}
 use Rattle.machine_commands.specs.Last.{no_last}
 use Rattle.machine_commands.specs.Session.{IsHeld, IsSessionOf, brought_by}
 use Rattle.machine_commands.specs.StoppedSession.{IsHeldToStop}
-use Rattle.machine_commands.specs.Stops.{NeverStops, StopsAfter}
+use Rattle.machine_commands.specs.Stops.{AreNone, NeverStops, StopsAfter}
 use Rattle.machine_commands.specs.Teletype.{run_of, typed_by, types_by}
 
 -- A run with this trace and so many instructions goes on from a world, by these events, to the end of another run: the other's trace
@@ -48,12 +46,6 @@ abbrev pub StoppedIsNotNever : Type 0
 StoppedIsNotNever =
     (stops : Stops) (profile : Profile) (ends_at_halt : Bool) (events : List Event) (w : WorldState) (count : ℕ) →
     StopsAfter stops (Usual profile) ends_at_halt 0 events w count → NeverStops stops (Usual profile) ends_at_halt 0 events w → ⊥
-
--- There is no address at which these stop a run, and no cell.
-pub record AreNone (stops : Stops) : Type 0 where
-  pub place : stops.place ≡ None
-  pub written : words stops.written ≡ nothing
-  pub read : words stops.read ≡ nothing
 
 -- What a run with an operator may leave that has no stops is what the events of its plan lead to, and nothing is said to have stopped it.
 abbrev pub SessionsWithoutStops : Type 0

@@ -5,7 +5,7 @@ use Rattle.instruct.specs.declared.Operation.{Operation}
 use Rattle.instruct.specs.declared.Operation.TheVariants.{And, Tad, Isz, Dca, Jms}
 use Rattle.instruct.specs.declared.Profile.{Profile}
 use Rattle.wordset.specs.Lanes.{words}
-use Rattle.wordset.specs.Words.{Words}
+use Rattle.wordset.specs.Words.{Words, nothing}
 use Rattle.processor.specs.Fetch.{fetched}
 use Rattle.processor.specs.Machine.{State, steps_pointer}
 use Rattle.processor.specs.declared.fetch.DecodedInstruction.{DecodedInstruction}
@@ -89,3 +89,9 @@ pub data NeverStops (stops : Stops) (c : Conduct) (ends_at_halt : Bool) : ℕ �
       goes_on ends_at_halt (seen_by c w e) ≡ true → happens_by c w e m →
       NeverStops stops c ends_at_halt (visits_with stops visits w e) es m →
       NeverStops stops c ends_at_halt visits (e ∷ es) w
+
+-- There is no address at which these stop a run, and no cell.
+pub record AreNone (stops : Stops) : Type 0 where
+  pub place : stops.place ≡ None
+  pub written : words stops.written ≡ nothing
+  pub read : words stops.read ≡ nothing

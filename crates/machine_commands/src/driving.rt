@@ -11,12 +11,13 @@ ghost use Rattle.machine_commands.specs.Driving.{Driven, IsTaken, Passes, Record
 ghost use Rattle.machine_commands.specs.Follows.{Conduct, counted, end_after, goes_on, profile_in, Usual};
 ghost use Rattle.machine_commands.specs.Session.{IsHeldFault};
 ghost use Rattle.machine_commands.specs.SessionParts.{is_step, steps_in};
+ghost use Rattle.machine_commands.specs.Stops.{AreNone};
 
 use crate::follow::{End, RunOutcome, end_of};
 use crate::long_trace::Statements;
 use crate::recorder::{Recorder, advance};
 use crate::schedule::Scheduler;
-use crate::stops::{stops_before, visits_with};
+use crate::stops::{may_stop, stops_before, visits_with};
 use command_parts::options::Stops;
 use command_parts::status::Fault;
 use peripherals::{Event, NoMemory, Seen, World};
@@ -180,18 +181,20 @@ fn is_step(event: &Event) -> bool
 }
 
 /// How many steps came to the address, with an event, where so many came to it before; none if the event stops
-/// the run.
+/// the run. Where none is said to, each passes.
 fn visits_past<A: Allocator>(
+    stopping: bool,
     stops: &Stops,
     visits: usize,
     world: &World<A>,
     event: &Event,
 ) -> Option<usize>
-    requires { visits + steps_in event.now < 18446744073709551616 }
+    requires none { stopping ≡ false → AreNone stops.now }
+    requires few { visits + steps_in event.now < 18446744073709551616 }
     ensures passes { Passes stops.now (profile_of world.now) visits (view world.now) event.now result }
     ensures few { IfSome result (λ more. more ≤ visits + steps_in event.now) }
 {
-    if !is_step(event) {
+    if !stopping || !is_step(event) {
         return Some(visits);
     }
     if stops_before(stops, visits, world, event) {
@@ -241,8 +244,9 @@ pub(crate) fn drive<
 {
     let mut steps = 0;
     let mut visits = 0;
+    let stopping = may_stop(stops);
     while let Some(event) = schedule.next_event(machine.world())? {
-        let Some(more) = visits_past(stops, visits, machine.world(), &event) else {
+        let Some(more) = visits_past(stopping, stops, visits, machine.world(), &event) else {
             return Ok(ended(steps, End::Stopped(machine.world().cpu().pc)));
         };
         visits = more;

@@ -1,11 +1,11 @@
 //! Where a run is stopped.
 
-ghost use Rattle.std.specs.Prelude.{◌≡◌, ◌≤◌, ◌<◌, ◌+◌, ◌||◌};
+ghost use Rattle.std.specs.Prelude.{◌≡◌, ◌≤◌, ◌<◌, ◌+◌, ◌||◌, false};
 ghost use Rattle.processor.specs.declared.fetch.DecodedInstruction.TheVariants.{Refers};
 ghost use Rattle.wordset.specs.Lanes.{words};
 ghost use Rattle.processor.specs.Steps.{state_of};
 ghost use Rattle.peripherals.specs.World.{view, profile_of};
-ghost use Rattle.machine_commands.specs.Stops.{is_asked_for, is_at, reads_one, stops_before, visits_with, writes_one};
+ghost use Rattle.machine_commands.specs.Stops.{AreNone, is_asked_for, is_at, reads_one, stops_before, visits_with, writes_one};
 
 use command_parts::options::Stops;
 use instruct::Operation;
@@ -73,6 +73,14 @@ fn is_asked_for(stops: &Stops, visits: usize, cpu: &Cpu) -> bool
         return true;
     }
     touches(stops, &cpu.fetch())
+}
+
+/// Whether there is a step before which these stop a run.
+pub(crate) fn may_stop(stops: &Stops) -> bool
+    ensures { result ≡ false → AreNone stops.now }
+{
+    let nothing = WordSet::empty();
+    stops.place.is_some() || !stops.written.is_subset(&nothing) || !stops.read.is_subset(&nothing)
 }
 
 /// Whether an event stops the run, where so many steps before it came to the address.

@@ -1,13 +1,11 @@
-use Rattle.std.proofs.Common.{rules, ◌≡◌, true, false}
+use Rattle.std.proofs.Common.{rules, ◌≡◌, true, refl}
 use Rattle.machine_commands.specs.SessionParts.{is_step}
-use Rattle.machine_commands.proofs.DriveLemmas.{passes_other, step_visits}
+use Rattle.machine_commands.proofs.DriveLemmas.{passes_without, step_visits}
 use Rattle.peripherals.specs.World.{view, profile_of}
 use Rattle.machine_commands.proofs.driving.visits_past.Goals as goal
 
-pub returns-then-not-is_step-clause-passes : goal.returns-then-not-is_step-clause-passes
-returns-then-not-is_step-clause-passes g c =
-    let other : is_step c.args.event.now ≡ false = search rules in
-    passes_other c.args.stops.now (profile_of c.args.world.now) c.args.visits (view c.args.world.now) c.args.event.now other
+pub returns-then-or-clause-passes : goal.returns-then-or-clause-passes
+returns-then-or-clause-passes g c = passes_without c.args.stopping (is_step c.args.event.now) c.args.stops.now (profile_of c.args.world.now) c.args.visits (view c.args.world.now) c.args.event.now (search rules) refl c.requires.none
 
 pub returns-clause-few : goal.returns-clause-few
 returns-clause-few g c =

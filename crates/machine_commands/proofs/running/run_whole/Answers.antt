@@ -1,6 +1,4 @@
-use Rattle.std.proofs.Common.{◌≡◌, None}
 use Rattle.machine_commands.specs.Course.{ends_at_halt, events_in}
-use Rattle.machine_commands.specs.StopLaws.{AreNone}
 use Rattle.machine_commands.proofs.RunLemmas.{all_front, all_ok}
 use Rattle.machine_commands.proofs.running.run_whole.Goals as goal
 

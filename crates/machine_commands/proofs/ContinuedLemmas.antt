@@ -24,6 +24,11 @@ pressed_next d s t w e is after = record {
   last = λ c extent over. Final s w e is over;
 }
 
+-- what holds of an event that is due, if there is one
+pub some_weaker : (o : Option Event) (P Q : Event → Type 0) → ((e : Event) → P e → Q e) → IfSome o P → IfSome o Q
+some_weaker None P Q weaker holds = tt
+some_weaker (Some e) P Q weaker holds = weaker e holds
+
 runs_due : (d : Declaration) (s : Pressing) (w : WorldState) → w.halted_at ≡ None → pressing_due d s w w.halted_at ≡ operating.due s.place w
 runs_due d s w is = rw is refl
 

@@ -14,7 +14,6 @@ use crate::saving::print_and_save;
 use crate::standard_error::open_input_if;
 use crate::stuck::answer_details;
 use crate::telling::tell_misuse;
-use bin_tape::Image;
 use command_line::{Destination, Misuse, SaveOptions, StopOptions, Task, WatchedSession};
 use command_parts::inputs::{bytes_from, events_from};
 use command_parts::message::Message;
@@ -22,10 +21,10 @@ use command_parts::options::{SessionOptions, VerifyOptions};
 use command_parts::outcome::{CommandResult, deliver};
 use command_parts::programs::ProgramWithDeclaration;
 use command_parts::status::{Fault, Status};
-use declaration::Declaration;
 use diagnostics::verdicts::certificates::{ProgramWithCertificate, certificate_from};
 use diagnostics::verdicts::messages::check_message;
 use machine_commands::long_trace::{MnemonicStatements, Statements};
+use machine_commands::messages::RunMessage;
 use machine_commands::stopped_watch::{
     WatchOptions, watch_message_to_stop, watch_session_message_to_stop,
 };
@@ -39,6 +38,41 @@ use std::rt::Files;
 use streams::standard::StdWriter;
 use streams::{ByteSource, put};
 use wordset::WordSet;
+
+/// What an operator has whose run is watched, and where it is stopped.
+struct WatchedOperator<'o> {
+    frames: &'o [u8],
+    keys: &'o [u8],
+    options: &'o SessionOptions,
+    stopping: &'o StopOptions,
+}
+
+impl WatchedOperator<'_> {
+    /// What is seen of the run, whose last instructions read so.
+    fn watched<N: Statements>(
+        &self,
+        alloc: Global,
+        program: &ProgramWithDeclaration<Global>,
+        session: &WatchedSession<'_>,
+        statements: &N,
+    ) -> Result<RunMessage<Global>, Fault> {
+        watch_session_message_to_stop(
+            alloc,
+            &program.image,
+            &program.declaration,
+            self.frames,
+            self.keys,
+            self.options,
+            session.continues,
+            &WatchOptions {
+                stops: &self.stopping.stops,
+                trace: trace_options(statements, false, self.stopping.last),
+                explained: session.explained,
+                show: &self.options.run.show,
+            },
+        )
+    }
+}
 
 impl<R: Files + Input + Print + Eprint, I: Read + Drop> OpenProgram<'_, '_, R, I> {
     /// Writes the line of an answer and the details below it to standard output, the details with what the source, if
@@ -201,42 +235,41 @@ impl<R: Files + Input + Print + Eprint, I: Read + Drop> OpenProgram<'_, '_, R, I
     ) -> Result<Status, Fault>
         requires { E.mark list.old ≡ false }
     {
-        let alloc = self.alloc;
-        let ProgramWithDeclaration { image, declaration } = self.read()?;
-        let events = events_from(alloc, list)?;
-        let (profile, given) = (declaration.profile(), (&image, &declaration));
-        match self.source {
-            None => {
-                let statements = MnemonicStatements { profile };
-                self.tell_list(given, &events, places, &statements)
-            }
+        let program = self.read()?;
+        let events = events_from(self.alloc, list)?;
+        let profile = program.declaration.profile();
+        let run = match self.source {
+            None => self.watched(&program, &events, places, &MnemonicStatements { profile })?,
             Some(source) => {
                 let statements = SourceStatements { source, profile };
-                self.tell_list(given, &events, places, &statements)
+                self.watched(&program, &events, places, &statements)?
             }
-        }
+        };
+        self.print(
+            self.labels(self.request.explained),
+            &run.lines,
+            &run.details,
+        )?;
+        Ok(run.status)
     }
 
-    /// Writes what is seen of the run of these events, whose instructions read so.
-    fn tell_list<N: Statements>(
+    /// What is seen of the run of these events, whose last instructions read so.
+    fn watched<N: Statements>(
         &self,
-        given: (&Image, &Declaration<Global>),
+        program: &ProgramWithDeclaration<Global>,
         events: &[Event],
         places: &ResolvedPlaces,
         statements: &N,
-    ) -> Result<Status, Fault> {
-        let (image, declaration) = given;
-        let explained = self.request.explained;
+    ) -> Result<RunMessage<Global>, Fault> {
         let stopping = stops_of(&places.stopping);
         let options = WatchOptions {
             stops: &stopping.stops,
             trace: trace_options(statements, false, stopping.last),
-            explained,
+            explained: self.request.explained,
             show: &places.show,
         };
-        let run = watch_message_to_stop(self.alloc, image, declaration, events, &options)?;
-        self.print(self.labels(explained), &run.lines, &run.details)?;
-        Ok(run.status)
+        let (image, declaration) = (&program.image, &program.declaration);
+        watch_message_to_stop(self.alloc, image, declaration, events, &options)
     }
 
     /// Watches a run with an operator.
@@ -251,52 +284,24 @@ impl<R: Files + Input + Print + Eprint, I: Read + Drop> OpenProgram<'_, '_, R, I
         let mut keys = open_input_if(self.rt, session.keys)?;
         let mut options = session.options;
         options.run.show = places.show;
-        let ProgramWithDeclaration { image, declaration } = self.read()?;
+        let program = self.read()?;
         let frames = bytes_from(alloc, &mut reader, options.run.rounds)?;
         let struck = bytes_from(alloc, &mut keys, options.run.rounds)?;
-        let profile = declaration.profile();
-        let given = (&image, &declaration);
-        let input = (frames.as_slice(), struck.as_slice());
-        match self.source {
-            None => {
-                let statements = MnemonicStatements { profile };
-                self.tell_session(given, input, &options, session, &places, &statements)
-            }
+        let profile = program.declaration.profile();
+        let stopping = stops_of(&places.stopping);
+        let operator = WatchedOperator {
+            frames: &frames,
+            keys: &struck,
+            options: &options,
+            stopping: &stopping,
+        };
+        let run = match self.source {
+            None => operator.watched(alloc, &program, session, &MnemonicStatements { profile })?,
             Some(source) => {
                 let statements = SourceStatements { source, profile };
-                self.tell_session(given, input, &options, session, &places, &statements)
+                operator.watched(alloc, &program, session, &statements)?
             }
-        }
-    }
-
-    /// Writes what is seen of a run with an operator, by these frames and keys, whose instructions read so.
-    fn tell_session<N: Statements>(
-        &self,
-        given: (&Image, &Declaration<Global>),
-        input: (&[u8], &[u8]),
-        options: &SessionOptions,
-        session: &WatchedSession<'_>,
-        places: &ResolvedPlaces,
-        statements: &N,
-    ) -> Result<Status, Fault> {
-        let (image, declaration) = given;
-        let (frames, keys) = input;
-        let stopping = stops_of(&places.stopping);
-        let run = watch_session_message_to_stop(
-            self.alloc,
-            image,
-            declaration,
-            frames,
-            keys,
-            options,
-            session.continues,
-            &WatchOptions {
-                stops: &stopping.stops,
-                trace: trace_options(statements, false, stopping.last),
-                explained: session.explained,
-                show: &places.show,
-            },
-        )?;
+        };
         self.print(self.labels(session.explained), &run.lines, &run.details)?;
         Ok(run.status)
     }

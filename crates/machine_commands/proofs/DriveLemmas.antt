@@ -1,6 +1,6 @@
 -- A run by a schedule, event by event.
-use Rattle.std.proofs.Common.{ℕ, zero, suc, ◌≡◌, ◌+◌, ◌<◌, ◌≤◌, Bool, true, false, ◌||◌, List, [], ◌∷◌, ◌++◌, length, refl, sym, ◌∙◌, ap, append_assoc, append-nil, add_assoc, add-zero, zero-add, length-append, arith, Some, None, Option, true≢false}
-use Rattle.std.specs.Prelude.{IfSome, is_some, not}
+use Rattle.std.proofs.Common.{ℕ, zero, suc, ◌≡◌, ◌+◌, ◌<◌, ◌≤◌, Bool, true, false, ◌||◌, List, [], ◌∷◌, ◌++◌, length, refl, sym, ◌∙◌, append_assoc, append-nil, add_assoc, add-zero, zero-add, length-append, arith, Some, None, Option, true≢false}
+use Rattle.std.specs.Prelude.{not}
 use Rattle.std.specs.Io.KnownBytes.{Appends}
 use Rattle.std.proofs.KnownBytes.{Appends-nil, Appends-trans}
 use Rattle.instruct.specs.declared.Profile.{Profile}
@@ -22,7 +22,7 @@ use Rattle.machine_commands.specs.Follows.{Conduct, FollowsBy, Ended, Stopped, S
 use Rattle.machine_commands.specs.Schedule.{Extent, ToStep, Whole}
 use Rattle.machine_commands.specs.Session.{printed_in}
 use Rattle.machine_commands.specs.SessionParts.{IsNext, is_step, steps_in}
-use Rattle.machine_commands.specs.StoppedSession.{StoppedSo, extent_to_stop, to_stop}
+use Rattle.machine_commands.specs.StoppedSession.{StoppedSo}
 use Rattle.machine_commands.specs.Stops.{AreNone, Ends, Continues, Here, Later, NeverStops, Over, StopsAfter, stops_before, visits_with}
 use Rattle.machine_commands.proofs.StopLawLemmas.{none_passes}
 use Rattle.machine_commands.proofs.SessionLemmas.{one_more, printed_next, printed_none}

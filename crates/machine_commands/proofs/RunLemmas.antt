@@ -1,6 +1,5 @@
 -- The run of a course: what comes of a list of events is the list up to where its run ends or is stopped.
-use Rattle.std.proofs.Common.{ℕ, zero, suc, ◌≡◌, ◌+◌, Bool, true, false, List, [], ◌∷◌, ◌++◌, length, take, drop, Option, Some, None, Result, Ok, Err, IfOk, refl, sym, ◌∙◌, ap, subst, inl, inr, true≢false}
-use Rattle.std.specs.Io.KnownBytes.{Appends}
+use Rattle.std.proofs.Common.{ℕ, ◌≡◌, Bool, true, false, List, [], ◌∷◌, ◌++◌, length, take, Option, Some, None, Result, Ok, Err, IfOk, refl, sym, ◌∙◌, ap, subst, inl, inr, true≢false}
 use Rattle.instruct.specs.declared.Profile.{Profile}
 use Rattle.peripherals.specs.declared.Event.{Event}
 use Rattle.peripherals.specs.declared.Event.TheVariants.{Step}
@@ -12,14 +11,14 @@ use Rattle.command_parts.specs.declared.status.Fault.{Fault}
 use Rattle.command_parts.specs.declared.status.Status.{Status}
 use Rattle.command_parts.specs.Writes.{FrontOf, Writes}
 use Rattle.machine_commands.specs.declared.follow.End.{End}
-use Rattle.machine_commands.specs.Follows.{Conduct, Follows, FollowsBy, Ended, Stuck, Stopped, Usual, Went, goes_on, seen_by}
+use Rattle.machine_commands.specs.Follows.{Conduct, Follows, Stuck, Stopped, Usual, Went, goes_on, seen_by}
 use Rattle.machine_commands.specs.Last.{Shown, no_last}
 use Rattle.machine_commands.specs.Running.{IsRunOf, fresh}
-use Rattle.machine_commands.specs.Schedule.{ComesBy, Over, Due, Final, Then, Extent, ToStep, Whole, first_of, listing}
+use Rattle.machine_commands.specs.Schedule.{ComesBy, Over, Due, Final, Then, Extent, ToStep, Whole, listing}
 use Rattle.machine_commands.specs.Session.{WritesAll, taken}
 use Rattle.machine_commands.specs.StoppedSession.{IsHeldToStop}
-use Rattle.machine_commands.specs.Stopping.{IsCut, IsRunWithStops}
-use Rattle.machine_commands.specs.Stops.{AreNone, NeverStops, StopsAfter, Here, Later, Ends, Continues, stops_before, visits_with}
+use Rattle.machine_commands.specs.Stopping.{IsRunWithStops}
+use Rattle.machine_commands.specs.Stops.{AreNone, NeverStops, StopsAfter, Here, Later, Ends, Continues, visits_with}
 use Rattle.machine_commands.specs.Summary.{whole_form}
 use Rattle.machine_commands.proofs.StopLawLemmas.{none_after, not_halted, not_stuck}
 

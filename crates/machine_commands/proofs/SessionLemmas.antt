@@ -1,5 +1,5 @@
 -- A run by a schedule, event by event.
-use Rattle.std.proofs.Common.{ℕ, zero, suc, ◌≡◌, ◌+◌, ◌*◌, ◌%◌, ◌==◌, ◌<◌, ◌≤◌, Bool, true, false, ◌||◌, if◌then◌else◌, List, [], ◌∷◌, ◌++◌, length, drop, map, refl, sym, ◌∙◌, ap, inl, inr, append_assoc, append-nil, add-zero, add-one, get_or, arith, Some, None, Option, Result, Ok, true≢false, subst, unwrap_or}
+use Rattle.std.proofs.Common.{ℕ, zero, suc, ◌≡◌, ◌+◌, ◌*◌, ◌%◌, ◌==◌, ◌<◌, ◌≤◌, Bool, true, false, ◌||◌, if◌then◌else◌, List, [], ◌∷◌, ◌++◌, length, drop, map, refl, sym, ◌∙◌, ap, inl, inr, append_assoc, append-nil, add-one, get_or, arith, Some, None, Option, Result, Ok, true≢false, subst, unwrap_or}
 use Rattle.std.specs.Io.KnownBytes.{Appends, Consumes}
 use Rattle.std.proofs.KnownBytes.{Appends-nil, Appends-trans}
 use Rattle.std.proofs.Transfers.{drop-appended}
@@ -10,7 +10,6 @@ use Rattle.streams.specs.Bytes.{Gave}
 use Rattle.instruct.specs.declared.Profile.{Profile}
 use Rattle.instruct.specs.Devices.{word_of}
 use Rattle.instruct.specs.declared.devices.DeviceOperation.TheVariants.{ClearPrinterFlag, ClearPrinterFlagAndPrint, ClearPunchFlag, ClearPunchFlagAndPunch, Print, Punch, ReadReaderBuffer, SetPrinterFlag}
-use Rattle.processor.specs.Machine.{State}
 use Rattle.peripherals.specs.declared.Event.{Event}
 use Rattle.peripherals.specs.declared.Event.TheVariants.{Step, Key, PrinterDone, ReaderDone, PunchDone, Switches, Continue}
 use Rattle.peripherals.specs.declared.Seen.{Seen}

@@ -215,3 +215,8 @@ within_none lanes within = words_are lanes nothing (λ v past. refl) (λ v h. el
   | inl is ↦ absurd (true≢false (sym (within v h is)))
   | inr is ↦ is
 ])
+
+-- a step of a machine that is not halted
+pub step_asked : (stops : Stops) (p q : Profile) (visits : ℕ) (w : WorldState) (s : State) (e : Event) (asked : Bool) → e ≡ Step → is_none w.halted_at ≡ true → q ≡ p → s ≡ w.state →
+    asked ≡ is_asked_for stops q visits s → asked ≡ stops_before stops p visits w e
+step_asked stops p q visits w s e asked is runs profile state same = rw (is, runs) (rw (profile, state) at same)

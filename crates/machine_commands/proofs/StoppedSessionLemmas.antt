@@ -1,5 +1,5 @@
 -- What a run with an operator and a session answer that may be stopped, by what a schedule brings.
-use Rattle.std.proofs.Common.{ℕ, ◌≡◌, Bool, false, List, Option, None, Result, Ok, Err, IfOk, subst}
+use Rattle.std.proofs.Common.{ℕ, ◌≡◌, Bool, false, List, Option, None, Result, Ok, Err, IfOk, subst, true}
 use Rattle.peripherals.specs.declared.Event.{Event}
 use Rattle.peripherals.specs.declared.operator.Operator.{Operator}
 use Rattle.peripherals.specs.Devices.{WorldState}

@@ -4,6 +4,7 @@ use Rattle.std.proofs.lemmas.Bool.Decides.{eqb_tells}
 use Rattle.std.specs.Prelude.{◌&&◌, not, is_some, IfOk, length, slice_index}
 use Rattle.std.specs.Io.KnownBytes.{Consumes, IsAtEnd}
 use Rattle.instruct.specs.declared.Profile.TheVariants.{Pdp8I}
+use Rattle.processor.specs.Machine.{State}
 use Rattle.peripherals.specs.declared.Event.{Event}
 use Rattle.peripherals.specs.declared.Event.TheVariants.{Step, Key, PrinterDone, ReaderDone, PunchDone, Switches, Continue}
 use Rattle.instruct.specs.Devices.{device_operation, word_of}
@@ -352,3 +353,7 @@ brought_less options w asked rounds last reader keys reader_after keys_after e b
 -- whether the next instruction asks for a key
 pub asks_there : (w : WorldState) (word : ℕ) (flag : Bool) → word ≡ word_at_pc w → w.devices.keyboard.flag ≡ flag → (word == word_of SkipOnKeyboardFlag && not flag) ≡ asks w
 asks_there w word flag is same = rw (is, ← same) refl
+
+-- the word of an instruction
+pub word_there : (w : WorldState) (s : State) (at word : ℕ) → s ≡ w.state → at ≡ w.state.pc → word ≡ s.memory at → word ≡ word_at_pc w
+word_there w s at word same there is = is ∙ rw (same, there) refl

@@ -1,5 +1,5 @@
 -- A run in which the operator presses CONTINUE at declared pauses.
-use Rattle.std.specs.Prelude.{ℕ, ◌+◌, ◌-◌, ◌==◌, ◌&&◌, ◌++◌, Bool, not, if◌then◌else◌, codes, decimal, Option, Some, None, List, [], ◌∷◌}
+use Rattle.std.specs.Prelude.{ℕ, ◌+◌, ◌-◌, ◌==◌, ◌&&◌, ◌++◌, not, if◌then◌else◌, codes, decimal, Option, Some, None, List, [], ◌∷◌}
 use Rattle.word12.specs.Words.{octal_text}
 use Rattle.peripherals.specs.declared.Event.{Event}
 use Rattle.peripherals.specs.declared.Event.TheVariants.{Continue}

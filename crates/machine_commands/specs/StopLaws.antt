@@ -1,5 +1,5 @@
 -- What stops change in a run: nothing up to the step that stops it, and nothing at all where there are none.
-use Rattle.std.specs.Prelude.{ℕ, ◌≡◌, ◌+◌, Bool, false, List, ◌++◌, Option, None, drop, take}
+use Rattle.std.specs.Prelude.{ℕ, ◌≡◌, ◌+◌, Bool, false, List, ◌++◌, Option, drop, take, true}
 use Rattle.instruct.specs.declared.Profile.{Profile}
 use Rattle.command_parts.specs.declared.options.RunOptions.{RunOptions}
 use Rattle.command_parts.specs.declared.options.Stops.{Stops}

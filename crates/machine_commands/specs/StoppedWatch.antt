@@ -1,5 +1,5 @@
 -- What `watch` writes of a run that may be stopped.
-use Rattle.std.specs.Prelude.{ℕ, ◌≡◌, ◌++◌, ◌||◌, Bool, true, false, List, [], ◌∷◌, Option, Some, None, is_some, length}
+use Rattle.std.specs.Prelude.{ℕ, ◌≡◌, ◌++◌, ◌||◌, Bool, true, false, List, [], Option, Some, None, is_some, length}
 use Rattle.peripherals.specs.declared.Event.{Event}
 use Rattle.peripherals.specs.declared.Event.TheVariants.{Step}
 use Rattle.peripherals.specs.Devices.{WorldState}

@@ -6,7 +6,7 @@ ghost use Rattle.declaration.specs.DeclarationInCode.{meaning};
 ghost use Rattle.command_parts.specs.Answers.{IsLaterFault, IsMemoryFault, OfRun, ReadsRun, WritesAnswer, output};
 ghost use Rattle.command_parts.specs.Faults.{fails_to_write};
 ghost use Rattle.command_parts.specs.Inputs.{input};
-ghost use Rattle.machine_commands.specs.Continued.{IsWatchText};
+ghost use Rattle.machine_commands.specs.WatchText.{IsWatchText};
 
 use crate::running::SHORT_TRACE;
 use crate::stopped_watch::{WatchOptions, watch_message_to_stop};

@@ -1,10 +1,10 @@
-use Rattle.std.proofs.Common.{rules, ℕ, ◌≡◌, ◌+◌, ◌<◌, ◌≤◌, ◌∙◌, [], ◌∷◌, ◌++◌, List, Ok, Some, None, true, false, refl, sym, arith}
+use Rattle.std.proofs.Common.{rules, ℕ, ◌≡◌, ◌+◌, ◌<◌, ◌≤◌, ◌∙◌, [], ◌∷◌, List, Ok, Some, None, true, false, refl, arith}
 use Rattle.peripherals.specs.declared.Event.{Event}
 use Rattle.peripherals.specs.declared.Event.TheVariants.{Step}
 use Rattle.machine_commands.specs.declared.driving.Taken.TheVariants.{Saw, Breaks}
 use Rattle.machine_commands.specs.Driving.{IsTaken, Passes, Recorded}
 use Rattle.machine_commands.specs.Follows.{Conduct, counted, goes_on, profile_in}
-use Rattle.machine_commands.specs.Schedule.{Extent, ToStep}
+use Rattle.machine_commands.specs.Schedule.{ToStep}
 use Rattle.machine_commands.specs.SessionParts.{IsNext, steps_in}
 use Rattle.machine_commands.specs.Stops.{stops_before}
 use Rattle.machine_commands.proofs.SessionLemmas.{counted_within, or_left, or_right}

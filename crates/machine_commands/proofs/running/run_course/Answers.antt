@@ -1,4 +1,3 @@
-use Rattle.std.proofs.Common.{refl}
 use Rattle.machine_commands.specs.Course.{ends_at_halt, events_in}
 use Rattle.machine_commands.specs.StoppedSession.{shown_by}
 use Rattle.machine_commands.proofs.HeldLemmas.{held_run}

@@ -1,4 +1,4 @@
-use Rattle.std.proofs.Common.{rules, ◌≡◌, ◌∙◌, [], refl}
+use Rattle.std.proofs.Common.{rules, ◌∙◌, refl}
 use Rattle.wordset.specs.Lanes.{words}
 use Rattle.declaration.specs.DeclarationInCode.{meaning}
 use Rattle.policy.specs.OpenCalls.{calls_of, machine_of}

@@ -3,7 +3,7 @@ use Rattle.std.specs.Prelude.{is_none}
 use Rattle.processor.specs.Steps.{state_of}
 use Rattle.peripherals.specs.declared.Event.TheVariants.{Step}
 use Rattle.peripherals.specs.World.{view, profile_of}
-use Rattle.machine_commands.proofs.StopLemmas.{step_asked}
+use Rattle.machine_commands.proofs.StopLawLemmas.{step_asked}
 use Rattle.machine_commands.proofs.stops.stops_before.Goals as goal
 
 pub returns-in-Step : goal.returns-in-Step

@@ -2,7 +2,7 @@ use Rattle.std.proofs.Common.{ap}
 use Rattle.processor.specs.Machine.{State}
 use Rattle.processor.specs.Steps.{state_of}
 use Rattle.peripherals.specs.World.{view}
-use Rattle.machine_commands.proofs.FollowLemmas.{word_there}
+use Rattle.machine_commands.proofs.TypistLemmas.{word_there}
 use Rattle.machine_commands.proofs.typist.next_word.Goals as goal
 
 pub returns : goal.returns

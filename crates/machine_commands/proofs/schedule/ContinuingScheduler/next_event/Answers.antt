@@ -1,10 +1,7 @@
-use Rattle.std.proofs.Common.{rules, ◌≡◌, ◌∙◌, Some, None, true, false, refl, sym}
-use Rattle.std.specs.Prelude.{◌==◌, ◌&&◌, not, IfSome}
+use Rattle.std.proofs.Common.{rules, ◌∙◌, None, refl, sym}
 use Rattle.peripherals.specs.World.{view}
 use Rattle.declaration.specs.DeclarationInCode.{meaning}
-use Rattle.machine_commands.specs.Continued.{pressing}
-use Rattle.machine_commands.specs.SessionParts.{IsNext, place_of}
-use Rattle.machine_commands.proofs.ContinuedLemmas.{halted_next, halted_over, operated_fewer, operated_next, operated_over, operated_step, operated_steps, some_weaker}
+use Rattle.machine_commands.proofs.ContinuedLemmas.{operated_fewer, operated_next, operated_over, operated_step, operated_steps, some_weaker}
 use Rattle.machine_commands.proofs.SessionLemmas.{ok_is}
 use Rattle.machine_commands.proofs.schedule.ContinuingScheduler.next_event.Goals as goal
 

@@ -1,4 +1,4 @@
-use Rattle.std.proofs.Common.{Some, None, refl}
+use Rattle.std.proofs.Common.{Some, None}
 use Rattle.peripherals.specs.World.{view}
 use Rattle.machine_commands.specs.TypingParts.{source}
 use Rattle.machine_commands.proofs.SessionLemmas.{Less, or_left, or_right}

@@ -1,4 +1,4 @@
-use Rattle.std.proofs.Common.{◌≡◌, ◌∙◌, refl}
+use Rattle.std.proofs.Common.{◌∙◌}
 use Rattle.declaration.specs.DeclarationInCode.{meaning}
 use Rattle.policy.specs.OpenCalls.{calls_of, machine_of}
 use Rattle.policy.specs.WatchedSteps.{Goes, Stops}

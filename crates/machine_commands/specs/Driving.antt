@@ -1,5 +1,5 @@
 -- What a run leaves. Private contracts alone cite this.
-use Rattle.std.specs.Prelude.{ℕ, ◌≡◌, ◌⊎◌, ◌≤◌, ◌++◌, ◌||◌, Bool, true, false, IfSome, List, [], ◌∷◌, Option, Some, None, drop, is_some, length, map}
+use Rattle.std.specs.Prelude.{ℕ, ◌≡◌, ◌⊎◌, ◌≤◌, ◌++◌, ◌||◌, Bool, true, false, IfSome, List, [], Option, Some, None, drop, is_some, length, map}
 use Rattle.std.specs.Io.KnownBytes.{Appends}
 use Rattle.instruct.specs.declared.Profile.{Profile}
 use Rattle.peripherals.specs.declared.Event.{Event}
@@ -17,7 +17,7 @@ use Rattle.machine_commands.specs.declared.recorder.Recorder.{Recorder}
 use Rattle.machine_commands.specs.Follows.{Conduct, FollowsBy, happens_by, profile_in, seen_by}
 use Rattle.machine_commands.specs.Last.{IsTraced, lines_in, told}
 use Rattle.machine_commands.specs.Schedule.{Extent}
-use Rattle.machine_commands.specs.Session.{character, printed_in}
+use Rattle.machine_commands.specs.Session.{character, leaves_open, printed_in}
 use Rattle.machine_commands.specs.StoppedSession.{StoppedSo, extent_to_stop, to_stop}
 use Rattle.machine_commands.specs.Stops.{stops_before, visits_with}
 use Rattle.machine_commands.specs.Trace.{trace_seen}
@@ -41,9 +41,9 @@ Passes stops profile visits w e (Some more) = (stops_before stops profile visits
 abbrev pub printed_from : WorldState → WorldState → List ℕ
 printed_from w x = map character (drop (length w.devices.printer.output) x.devices.printer.output)
 
--- A text ends with a line feed, or is empty.
+-- A text leaves no line open.
 abbrev pub IsWhole : List ℕ → Type 0
-IsWhole text = (text ≡ []) ⊎ ((front : List ℕ) × (text ≡ front ++ (10 ∷ [])))
+IsWhole text = leaves_open text ≡ false
 
 -- The last lines of these are among those that are kept: there are no others, or as many as are wanted are kept before the newest.
 pub record Keeps {A : Type 0} (kept : LastLines A) (lines : List ℕ) : Type 0 where
@@ -53,7 +53,7 @@ pub record Keeps {A : Type 0} (kept : LastLines A) (lines : List ℕ) : Type 0 w
   pub older_whole : IsWhole kept.older.items
   pub newer_whole : IsWhole kept.newer.items
   pub enough : (dropped ≡ []) ⊎ (kept.most ≤ lines_in kept.older.items)
-  pub count : kept.count ≡ lines_in kept.newer.items
+  pub count : kept.count ≤ lines_in kept.newer.items
 
 -- The same, where last lines are requested.
 abbrev pub KeepsIf : {A : Type 0} → Option (LastLines A) → List ℕ → Type 0

@@ -87,10 +87,9 @@ impl<A: Allocator + Copy> LastLines<A> {
 }
 
 impl<A: Allocator> LastLines<A> {
-    /// Adds a line.
-    pub(crate) fn add(&mut self, line: &[u8]) -> Result<(), AllocError>
-        ensures kept { OnOk result ((lines : List ℕ) → IsWhole line.now → Keeps self.old lines →
-            Keeps self.new (lines ++ line.now)) }
+    /// Drops the older lines, and keeps the newer ones in their place, if those are as many as are wanted.
+    fn make_room(&mut self)
+        ensures kept { (lines : List ℕ) → Keeps self.old lines → Keeps self.new lines }
         ensures most { self.new.most ≡ self.old.most }
     {
         if self.count >= self.most as usize {
@@ -98,6 +97,15 @@ impl<A: Allocator> LastLines<A> {
             self.newer.clear();
             self.count = 0;
         }
+    }
+
+    /// Adds a line.
+    pub(crate) fn add(&mut self, line: &[u8]) -> Result<(), AllocError>
+        ensures kept { OnOk result ((lines : List ℕ) → IsWhole line.now → Keeps self.old lines →
+            Keeps self.new (lines ++ line.now)) }
+        ensures most { self.new.most ≡ self.old.most }
+    {
+        self.make_room();
         self.count = self.count.saturating_add(lines_in(line));
         self.newer.extend_from_slice(line)
     }

@@ -24,7 +24,7 @@ use std::alloc::{AllocError, Allocator};
 use streams::{ByteSink, Failed, put};
 
 /// What is shown of the instructions of a run, beside a trace of all of them.
-#[derive(Clone, Copy)]
+#[derive(Drop)]
 pub struct TraceOptions<'n, N> {
     /// How many of the last instructions are shown when it is over, if that is requested.
     pub last: Option<u32>,

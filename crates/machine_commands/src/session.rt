@@ -40,6 +40,7 @@ pub struct Outputs<W, T, P> {
 }
 
 /// How an image is run, and what is told of the run.
+#[derive(Drop)]
 pub(crate) struct RunPlan<'p, N> {
     pub(crate) image: &'p Image,
     pub(crate) options: RunOptions,

@@ -38,7 +38,7 @@ use std::alloc::{AllocError, Allocator};
 use wordset::WordSet;
 
 /// How a watched run is told.
-#[derive(Clone, Copy)]
+#[derive(Drop)]
 pub struct WatchOptions<'s, N> {
     /// Where the run is stopped.
     pub stops: &'s Stops,

@@ -40,6 +40,7 @@ use streams::{ByteSource, put};
 use wordset::WordSet;
 
 /// What an operator has whose run is watched, and where it is stopped.
+#[derive(Drop)]
 struct WatchedOperator<'o> {
     frames: &'o [u8],
     keys: &'o [u8],

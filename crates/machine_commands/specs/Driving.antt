@@ -1,11 +1,13 @@
 -- What a run leaves. Private contracts alone cite this.
-use Rattle.std.specs.Prelude.{ℕ, ◌≡◌, ◌⊎◌, ◌≤◌, ◌++◌, ◌||◌, Bool, true, false, IfSome, List, [], Option, Some, None, drop, is_some, length, map}
+use Rattle.std.specs.Prelude.{ℕ, ◌≡◌, ◌⊎◌, ◌≤◌, ◌++◌, ◌||◌, Bool, true, false, IfSome, List, [], Option, Some, None, drop, is_none, is_some, length, map}
 use Rattle.std.specs.Io.KnownBytes.{Appends}
 use Rattle.instruct.specs.declared.Profile.{Profile}
 use Rattle.peripherals.specs.declared.Event.{Event}
 use Rattle.peripherals.specs.declared.Event.TheVariants.{Step}
 use Rattle.peripherals.specs.declared.Seen.{Seen}
-use Rattle.peripherals.specs.Devices.{WorldState}
+use Rattle.processor.specs.Steps.{state_of}
+use Rattle.processor.specs.declared.Cpu.{Cpu}
+use Rattle.peripherals.specs.Devices.{WorldState, word_at_pc}
 use Rattle.policy.specs.declared.rules.Rule.{Rule}
 use Rattle.command_parts.specs.declared.options.Stops.{Stops}
 use Rattle.machine_commands.specs.declared.driving.DrivenRun.{DrivenRun}
@@ -13,6 +15,7 @@ use Rattle.machine_commands.specs.declared.driving.Taken.{Taken}
 use Rattle.machine_commands.specs.declared.driving.Taken.TheVariants.{Saw, Breaks}
 use Rattle.machine_commands.specs.declared.follow.End.{End}
 use Rattle.machine_commands.specs.declared.last.LastLines.{LastLines}
+use Rattle.machine_commands.specs.declared.long_trace.NextInstruction.{NextInstruction}
 use Rattle.machine_commands.specs.declared.recorder.Recorder.{Recorder}
 use Rattle.machine_commands.specs.Follows.{Conduct, FollowsBy, happens_by, profile_in, seen_by}
 use Rattle.machine_commands.specs.Last.{IsTraced, lines_in, told}
@@ -20,7 +23,7 @@ use Rattle.machine_commands.specs.Schedule.{Extent}
 use Rattle.machine_commands.specs.Session.{character, leaves_open, printed_in}
 use Rattle.machine_commands.specs.StoppedSession.{StoppedSo, extent_to_stop, to_stop}
 use Rattle.machine_commands.specs.Stops.{stops_before, visits_with}
-use Rattle.machine_commands.specs.Trace.{trace_seen}
+use Rattle.machine_commands.specs.Trace.{is_traced, trace_seen}
 
 -- An event happened, and this was seen of it; or it is a step that would violate a rule, and nothing changed.
 abbrev pub IsTaken : Conduct → WorldState → Event → WorldState → (Rule → Type 0) → Taken → Type 0
@@ -71,6 +74,27 @@ pub record Recorded {N A : Type 0} (r : Recorder N A) (lines : List ℕ) (old ne
   pub is_traced : IsTraced (is_some r.statements) r.trace lines during
   pub wrote : Appends old new during
   pub kept : is_some r.statements ≡ false → KeepsIf r.last lines
+
+-- No line is requested.
+pub record IsQuiet {N A : Type 0} (r : Recorder N A) : Type 0 where
+  pub trace : r.trace ≡ false
+  pub last : is_none r.last ≡ true
+
+-- The instruction was noted that stands at an address, with this word.
+pub record IsNoted (at word : ℕ) (next : NextInstruction) : Type 0 where
+  pub at_is : next.at ≡ at
+  pub word_is : next.word ≡ word
+
+-- The instruction was noted, if one was, before an event that leads from w to x, where this is the processor then.
+pub record IsBetween (c : Conduct) (w : WorldState) (next : Option NextInstruction) (cpu : Cpu) (x : WorldState) : Type 0 where
+  pub noted : IfSome next (IsNoted w.state.pc (word_at_pc w))
+  pub profile : cpu.profile ≡ profile_in c
+  pub state : state_of cpu ≡ x.state
+
+-- An instruction was carried out.
+abbrev pub is_executed : Taken → Bool
+is_executed (Saw seen) = is_traced seen
+is_executed (Breaks rule) = false
 
 -- The same options, whichever lines are kept.
 pub record SameOptions {N A : Type 0} (r s : Recorder N A) : Type 0 where

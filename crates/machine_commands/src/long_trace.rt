@@ -1,5 +1,8 @@
 //! The long lines of a trace: what each instruction is, and what it read and wrote. They are tested and not proved.
 
+ghost use Rattle.processor.specs.Steps.{state_of};
+ghost use Rattle.machine_commands.specs.Driving.{IsNoted};
+
 use command_parts::text::{push_place, push_word};
 use instruct::{Operation, Profile, name, refers_to_memory, target};
 use processor::{Cpu, DecodedInstruction, Reference};
@@ -111,7 +114,9 @@ pub(crate) struct NextInstruction {
 }
 
 /// The instruction that is about to be carried out, with the cells that it uses if these are requested.
-pub(crate) fn instruction_at(cpu: &Cpu, with_cells: bool) -> NextInstruction {
+pub(crate) fn instruction_at(cpu: &Cpu, with_cells: bool) -> NextInstruction
+    ensures { IsNoted cpu.now.pc ((state_of cpu.now).memory cpu.now.pc) result }
+{
     let mut next = NextInstruction {
         at: cpu.pc,
         word: cpu.memory.get(cpu.pc),

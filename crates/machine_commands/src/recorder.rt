@@ -1,13 +1,15 @@
 //! The lines of the instructions of a run: all of them as they come, and the last ones when it is over.
 
-ghost use Rattle.std.specs.Prelude.{ℕ, ◌≡◌, ◌||◌, ◌%◌, ◌++◌, [], ◌∷◌, List, Option, false, drop, get_or, is_err, map, IfErr, IfOk, OnOk};
+ghost use Rattle.std.specs.Prelude.{ℕ, ◌≡◌, ◌||◌, ◌%◌, ◌++◌, [], ◌∷◌, List, None, Option, false, drop, get_or, is_err, map, IfErr, IfOk, IfSome, OnOk};
 ghost use Rattle.std.specs.Io.KnownBytes.{Appends};
 ghost use Rattle.processor.specs.Steps.{state_of};
 ghost use Rattle.peripherals.specs.declared.Event.{Event};
 ghost use Rattle.peripherals.specs.declared.Seen.{Seen};
 ghost use Rattle.policy.specs.declared.rules.Rule.{Rule};
 ghost use Rattle.command_parts.specs.Faults.{IsRunFault, fails_to_write};
-ghost use Rattle.machine_commands.specs.Driving.{IsTaken, IsWhole, KeepsIf, Recorded, SameOptions, most_of, printed_from, trace_taken};
+ghost use Rattle.peripherals.specs.Devices.{WorldState};
+ghost use Rattle.machine_commands.specs.Driving.{IsBetween, IsNoted, IsQuiet, IsTaken, IsWhole, KeepsIf, Recorded, SameOptions, is_executed, most_of, printed_from, trace_taken};
+ghost use Rattle.machine_commands.specs.Follows.{Conduct};
 ghost use Rattle.machine_commands.specs.Last.{last_of};
 ghost use Rattle.machine_commands.specs.Session.{character};
 ghost use Rattle.machine_commands.specs.Trace.{trace_line, traced};
@@ -74,10 +76,16 @@ impl<'n, N, A: Allocator + Copy> Recorder<'n, N, A> {
         }
     }
 
-    /// Whether no line is requested.
-    #[inline(always)]
-    fn is_quiet(&self) -> bool {
-        !self.trace && self.last.is_none()
+    /// Keeps a line, if the last ones are requested.
+    fn keep(&mut self, line: &[u8]) -> Result<(), AllocError>
+        ensures kept { OnOk result ((lines : List ℕ) → IsWhole line.now → KeepsIf self.old.last lines →
+            KeepsIf self.new.last (lines ++ line.now)) }
+        ensures same { SameOptions self.old self.new }
+    {
+        match &mut self.last {
+            Some(last) => last.add(line),
+            None => Ok(()),
+        }
     }
 
     /// Keeps a line, and writes it, as requested.
@@ -92,19 +100,30 @@ impl<'n, N, A: Allocator + Copy> Recorder<'n, N, A> {
         ensures marks { W.mark out.new ≡ fails_to_write result }
         ensures silent { self.old.trace ≡ false → out.new ≡ out.old }
     {
-        if let Some(last) = &mut self.last {
-            last.add(line)?;
+        self.keep(line)?;
+        if !self.trace {
+            return Ok(());
         }
-        if self.trace {
-            put(out, line)?;
-        }
+        put(out, line)?;
         Ok(())
+    }
+
+    /// The instruction that is about to be carried out, if any line is requested.
+    #[inline(always)]
+    fn note(&self, cpu: &Cpu) -> Option<NextInstruction>
+        ensures none { result ≡ None → IsQuiet self.now }
+        ensures some { IfSome result (IsNoted cpu.now.pc ((state_of cpu.now).memory cpu.now.pc)) }
+    {
+        if !self.trace && self.last.is_none() {
+            return None;
+        }
+        Some(instruction_at(cpu, self.statements.is_some()))
     }
 }
 
 impl<N: Statements, A: Allocator + Copy> Recorder<'_, N, A> {
     /// Takes down an instruction that was carried out.
-    fn record<W: ByteSink>(
+    fn put_line<W: ByteSink>(
         &mut self,
         next: &NextInstruction,
         cpu: &Cpu,
@@ -132,6 +151,44 @@ impl<N: Statements, A: Allocator + Copy> Recorder<'_, N, A> {
             }
         }
     }
+
+    /// Takes down what came of an event, if it carried out an instruction and any line is requested.
+    #[inline(always)]
+    fn record<W: ByteSink>(
+        &mut self,
+        next: &Option<NextInstruction>,
+        taken: &Taken,
+        cpu: &Cpu,
+        out: &mut W,
+    ) -> Result<(), Fault>
+        requires unmarked { W.mark out.old ≡ false }
+        requires quiet { next.now ≡ None → IsQuiet self.old }
+        ensures recorded { OnOk result ((conduct : Conduct) (w x : WorldState) (lines : List ℕ)
+            (first : Option (List ℕ)) → IsBetween conduct w next.now cpu.now x →
+            Recorded self.old lines first (W.taken out.old) →
+            Recorded self.new (lines ++ trace_taken conduct taken.now w x) first (W.taken out.new)) }
+        ensures same { SameOptions self.old self.new }
+        ensures faults { IfErr result IsRunFault }
+        ensures marks { W.mark out.new ≡ fails_to_write result }
+        ensures silent { self.old.trace ≡ false → out.new ≡ out.old }
+    {
+        match next {
+            None => Ok(()),
+            Some(next) => {
+                if !is_executed(taken) {
+                    return Ok(());
+                }
+                self.put_line(next, cpu, out)
+            }
+        }
+    }
+}
+
+/// Whether an instruction was carried out.
+fn is_executed(taken: &Taken) -> bool
+    ensures { result ≡ is_executed taken.now }
+{
+    matches!(taken, Taken::Saw(Seen::Ran | Seen::Halted))
 }
 
 /// Types the byte that was printed after so many others, if there is one.
@@ -199,16 +256,9 @@ pub(crate) fn advance<
     ensures silent { recorder.old.trace ≡ false → report.new ≡ report.old }
 {
     let before = machine.world().printed().len();
-    if recorder.is_quiet() {
-        let taken = machine.take(event)?;
-        type_from(machine.world().printed(), before, teletype)?;
-        return Ok(taken);
-    }
-    let next = instruction_at(machine.world().cpu(), recorder.statements.is_some());
+    let next = recorder.note(machine.world().cpu());
     let taken = machine.take(event)?;
-    if matches!(taken, Taken::Saw(Seen::Ran | Seen::Halted)) {
-        recorder.record(&next, machine.world().cpu(), report)?;
-    }
+    recorder.record(&next, &taken, machine.world().cpu(), report)?;
     type_from(machine.world().printed(), before, teletype)?;
     Ok(taken)
 }

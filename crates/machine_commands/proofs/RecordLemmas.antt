@@ -1,6 +1,6 @@
 -- The lines of a run, as they are written and kept.
-use Rattle.std.proofs.Common.{ℕ, ◌≡◌, Bool, true, false, List, [], ◌++◌, Option, Some, None, Result, Ok, Err, refl, sym, ◌∙◌, ap, append_assoc, append-nil, true≢false}
-use Rattle.std.specs.Prelude.{OnOk, codes, is_none, is_some}
+use Rattle.std.proofs.Common.{ℕ, ◌≡◌, Bool, true, false, List, [], ◌++◌, Option, Some, None, Result, Ok, Err, refl, sym, ◌∙◌, ap, append_assoc, append-nil, true≢false, subst}
+use Rattle.std.specs.Prelude.{IfSome, OnOk, codes, is_none, is_some}
 use Rattle.std.specs.Io.KnownBytes.{Appends}
 use Rattle.std.proofs.KnownBytes.{Appends-trans}
 use Rattle.instruct.specs.declared.Profile.{Profile}
@@ -110,3 +110,12 @@ pub line_is : (c : Conduct) (taken : Taken) (w x : WorldState) (note : Option Ne
 line_is c taken w x note next cpu some is between =
     let noted : IsNoted w.state.pc (word_at_pc w) next = rw some at between.noted in
     rw (between.profile, between.state, noted.at_is, noted.word_is) (sym (line_taken c taken w x is))
+
+-- what was noted before an event, and the processor after it
+pub between : (c d : Conduct) (w x v u : WorldState) (note : Option NextInstruction) (before after : Cpu) → state_of before ≡ v.state → v ≡ w → IfSome note (IsNoted before.pc ((state_of before).memory before.pc)) →
+    after.profile ≡ profile_in d → d ≡ c → state_of after ≡ u.state → u ≡ x → IsBetween c w note after x
+between c d w x v u note before after there same noted profile conduct here so = record {
+  noted = subst (λ (s : State). IfSome note (IsNoted s.pc (s.memory s.pc))) (there ∙ ap (λ (y : WorldState). y.state) same) noted;
+  profile = profile ∙ ap profile_in conduct;
+  state = here ∙ ap (λ (y : WorldState). y.state) so;
+}

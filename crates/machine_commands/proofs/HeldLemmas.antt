@@ -4,7 +4,8 @@ use Rattle.std.specs.Prelude.{IfErr}
 use Rattle.command_parts.specs.declared.status.DeviceFault.TheVariants.{Read, Write}
 use Rattle.command_parts.specs.declared.status.Fault.{Fault}
 use Rattle.command_parts.specs.declared.status.Fault.TheVariants.{Tape, EmptyImage, Source, Declared, Certificate, Events, Guess, Declare, Device, NoMemory}
-use Rattle.command_parts.specs.Faults.{IsRunFault, IsSessionFault, fails_to_read, is_fault_of_tape}
+use Rattle.command_parts.specs.Answers.{IsMemoryFault}
+use Rattle.command_parts.specs.Faults.{IsRunFault, IsSessionFault, fails_to_read, fails_to_write, is_fault_of_tape}
 use Rattle.command_parts.specs.Inputs.{HasImage, Input}
 use Rattle.machine_commands.specs.Session.{IsHeldFault}
 
@@ -55,3 +56,18 @@ pub session_faults : {T : Type 0} (most : ℕ) (tape reader keys : Input) (image
     HasImage tape.had image → (fails_to_read r ≡ true → false ≡ true) → IfErr r IsHeldFault → IfErr r (IsSessionFault most tape reader keys)
 session_faults {T} most tape reader keys image (Ok v) good none held = tt
 session_faults {T} most tape reader keys image (Err fault) good none held = inr (record { image = image; tape = good }, inr (inr (held_run {T = T} (Err fault) none held)))
+
+-- where no read and no write can fail memory was refused
+pub held_memory : {T : Type 0} (r : Result T Fault) → (fails_to_read r ≡ true → false ≡ true) → fails_to_write r ≡ false → IfErr r IsHeldFault → IfErr r IsMemoryFault
+held_memory (Ok v) unread unwritten held = tt
+held_memory (Err (Tape fault)) unread unwritten held = absurd held
+held_memory (Err EmptyImage) unread unwritten held = absurd held
+held_memory (Err (Source fault)) unread unwritten held = absurd held
+held_memory (Err (Declared fault)) unread unwritten held = absurd held
+held_memory (Err (Certificate fault)) unread unwritten held = absurd held
+held_memory (Err (Events fault)) unread unwritten held = absurd held
+held_memory (Err (Guess fault)) unread unwritten held = absurd held
+held_memory (Err (Declare fault)) unread unwritten held = absurd held
+held_memory (Err (Device Read)) unread unwritten held = absurd (true≢false (sym (unread refl)))
+held_memory (Err (Device Write)) unread unwritten held = absurd (true≢false unwritten)
+held_memory (Err NoMemory) unread unwritten held = refl

@@ -1,5 +1,5 @@
 -- What `watch` writes of a run that may be stopped.
-use Rattle.std.specs.Prelude.{ℕ, ◌≡◌, ◌++◌, ◌||◌, Bool, true, false, List, [], Option, Some, None, is_some, length}
+use Rattle.std.specs.Prelude.{ℕ, ◌≡◌, ◌++◌, ◌||◌, Bool, true, false, List, [], Option, Some, None, is_some, length, unwrap_or}
 use Rattle.peripherals.specs.declared.Event.{Event}
 use Rattle.peripherals.specs.declared.Event.TheVariants.{Step}
 use Rattle.peripherals.specs.Devices.{WorldState}
@@ -75,8 +75,7 @@ IsListToStop stops shown explained named image d list status text details =
 
 -- How often CONTINUE may be pressed.
 abbrev pub most_presses : Option ℕ → ℕ
-most_presses None = 0
-most_presses (Some n) = n
+most_presses continues = unwrap_or continues 0
 
 -- The events that come are those of an operator with this plan, who presses CONTINUE at declared pauses if there is a number of times.
 abbrev pub IsPlanToStop : Option ℕ → Plan → Stops → Shown → Bool → (ℕ → Bool) → List (Option ℕ) → Declaration → Status → List ℕ → List ℕ → Type 0

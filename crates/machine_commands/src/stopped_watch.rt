@@ -1,15 +1,16 @@
 //! What is told of a watched run up to where it is stopped, with its last instructions.
 
-ghost use Rattle.std.specs.Prelude.{◌≡◌, ◌<◌, false, IfOk, IfErr};
+ghost use Rattle.std.specs.Prelude.{◌≡◌, ◌+◌, ◌*◌, ◌<◌, false, true, IfOk, IfErr};
 ghost use Rattle.wordset.specs.Lanes.{words};
 ghost use Rattle.declaration.specs.DeclarationInCode.{meaning};
 ghost use Rattle.peripherals.specs.World.{profile_of, view};
 ghost use Rattle.policy.specs.OpenCalls.{machine_of};
 ghost use Rattle.command_parts.specs.Answers.{IsMemoryFault};
+ghost use Rattle.command_parts.specs.Faults.{fails_to_read, fails_to_write};
 ghost use Rattle.command_parts.specs.Messages.{plain};
 ghost use Rattle.machine_commands.specs.Continued.{line_text, went_text};
 ghost use Rattle.machine_commands.specs.WatchedRun.{IsBefore};
-ghost use Rattle.machine_commands.specs.Session.{plan_for};
+ghost use Rattle.machine_commands.specs.Session.{IsHeldFault, plan_for};
 ghost use Rattle.machine_commands.specs.StoppedSession.{shown_by};
 ghost use Rattle.machine_commands.specs.StoppedWatch.{BelowLine, IsListToStop, IsPlanToStop, IsWatchToStop, watched_at};
 
@@ -190,6 +191,9 @@ fn watch_by<S: Scheduler, N: Statements, A: Allocator + Copy, D: Allocator>(
         telling.now.stops.now (shown_by telling.now.trace) telling.now.explained
         (words telling.now.show.now) image.now (meaning declaration.now)
         run.status run.lines.items (plain run.details)) }
+    ensures faults { IfErr result IsHeldFault }
+    ensures unwritten { fails_to_write result ≡ false }
+    ensures reads { fails_to_read result ≡ true → S.unread schedule.new ≡ true }
 {
     let mut machine = WatchedMachine::new(alloc, image, declaration);
     let mut recorder = Recorder::new(alloc, false, &telling.trace);
@@ -247,6 +251,11 @@ pub fn watch_message_to_stop<A: Allocator + Copy, N: Statements, D: Allocator>(
     )
 }
 
+/// Shows that the events of so many rounds and presses are few.
+fn are_few(rounds: u32, presses: u32)
+    ensures { rounds * 5 + 1 + presses < 18446744073709551616 }
+{}
+
 /// What `watch` tells of a run with an operator, by the frames in the reader and the keys to strike, up to where it is
 /// stopped. With a number of times the operator presses CONTINUE at declared pauses, at most so many times.
 ///
@@ -271,8 +280,10 @@ pub fn watch_session_message_to_stop<A: Allocator + Copy, N: Statements, D: Allo
     ensures faults { IfErr result IsMemoryFault }
 {
     let (rounds, mark) = (options.run.rounds, options.mark);
+    let presses = continues.unwrap_or(0);
+    are_few(rounds, presses);
     let operator = Operator::new(options.switches, rounds, frames, keys, mark);
-    let mut schedule = Continuing::new(operator, declaration, continues.unwrap_or(0));
+    let mut schedule = Continuing::new(operator, declaration, presses);
     let offered = AvailableInput {
         frames: frames.len(),
         keys: keys.len(),

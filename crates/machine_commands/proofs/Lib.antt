@@ -5,6 +5,7 @@ pub mod HeldLemmas
 pub mod HoldLemmas
 pub mod InterruptedLemmas
 pub mod LastLemmas
+pub mod ListedWatchLemmas
 pub mod RecordLemmas
 pub mod RunLemmas
 pub mod SessionLemmas

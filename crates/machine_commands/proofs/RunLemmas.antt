@@ -155,7 +155,7 @@ course_front options stops shown h es image old new front =
 -- without stops it is the run of all events
 pub run_of_all : (options : RunOptions) (stops : Stops) (h : Bool) (es : List Event) (image : List (Option ℕ)) (text : List ℕ) (status : Status) → AreNone stops → IsRunWithStops options stops no_last h es image text status → IsRunOf options h es image text status
 run_of_all options stops h es image text status none run = elim run.is_cut [
-  | inl k ↦ absurd (none_after stops options.profile h 0 es (fresh image options.start) k.0 none k.1)
+  | inl k ↦ absurd (none_after stops (Usual options.profile) h 0 es (fresh image options.start) k.0 none k.1)
   | inr k ↦ (let told = run.is in
       let during = told.is_traced in
       let last = told.is_last in

@@ -20,7 +20,7 @@ use Rattle.peripherals.specs.Events.{Happens, Steps}
 use Rattle.peripherals.specs.Operator.{Plan, due, first_due, frame_due, key_due, left_after, plan_of, round_due}
 use Rattle.peripherals.specs.EventOutcomes.{seen_of}
 use Rattle.machine_commands.specs.Driving.{printed_from}
-use Rattle.machine_commands.specs.Follows.{Conduct, Declared, Usual, counted, happens_by, seen_by}
+use Rattle.machine_commands.specs.Follows.{Conduct, Declared, Usual, counted, happens_by, seen_by, unless_stuck}
 use Rattle.command_parts.specs.Inputs.{AreFirst}
 use Rattle.machine_commands.specs.Schedule.{ComesBy, Due, Final, Then, Extent, ToStep, first_place, operating}
 use Rattle.machine_commands.specs.Session.{WritesAll, character, printed_in, taken, Taken}
@@ -155,7 +155,7 @@ usual_within p w Continue = none_within _ (device_counts (is_some w.halted_at))
 -- a step alone carries out an instruction
 pub counted_within : (c : Conduct) (w : WorldState) (e : Event) → counted (seen_by c w e) ≤ steps_in e
 counted_within (Usual p) w e = usual_within p w e
-counted_within (Declared d) w Step = seen_within (seen_of d.profile w Step)
+counted_within (Declared d) w Step = seen_within (unless_stuck (seen_of d.profile w Step))
 counted_within (Declared d) w (Key byte) = omega arith
 counted_within (Declared d) w PrinterDone = omega arith
 counted_within (Declared d) w (ReaderDone byte) = omega arith

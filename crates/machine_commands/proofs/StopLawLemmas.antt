@@ -23,7 +23,7 @@ use Rattle.peripherals.specs.EventOutcomes.{seen_of}
 use Rattle.peripherals.proofs.OneLemmas.{one_world}
 use Rattle.machine_commands.specs.declared.follow.End.{End}
 use Rattle.machine_commands.specs.Driving.{Passes}
-use Rattle.machine_commands.specs.Follows.{Conduct, Follows, Ended, Stuck, Stopped, Usual, Went, counted, goes_on}
+use Rattle.machine_commands.specs.Follows.{Conduct, Follows, Ended, Stuck, Stopped, Usual, Went, counted, goes_on, profile_in}
 use Rattle.machine_commands.specs.Last.{no_last}
 use Rattle.machine_commands.specs.Running.{fresh}
 use Rattle.machine_commands.specs.StopLaws.{GoesOnTo, SessionsWithoutStops, StoppedIsNotNever, StoppedRunsAreFronts, StopsAreOne, TypedWithoutStops}
@@ -160,18 +160,18 @@ none_stops stops p visits w PunchDone none = refl
 none_stops stops p visits w (Switches word) none = refl
 none_stops stops p visits w Continue none = refl
 
-pub none_after : (stops : Stops) (p : Profile) (h : Bool) (visits : ℕ) (es : List Event) (w : WorldState) (count : ℕ) → AreNone stops → StopsAfter stops (Usual p) h visits es w count → ⊥
-none_after stops p h visits es w count none (Here _ e fs _ on) = absurd (true≢false (sym on ∙ none_stops stops p visits w e none))
-none_after stops p h visits es w count none (Later _ k e fs _ m off goes happens later) = none_after stops p h (visits_with stops visits w e) fs m k none later
+pub none_after : (stops : Stops) (c : Conduct) (h : Bool) (visits : ℕ) (es : List Event) (w : WorldState) (count : ℕ) → AreNone stops → StopsAfter stops c h visits es w count → ⊥
+none_after stops c h visits es w count none (Here _ e fs _ on) = absurd (true≢false (sym on ∙ none_stops stops (profile_in c) visits w e none))
+none_after stops c h visits es w count none (Later _ k e fs _ m off goes happens later) = none_after stops c h (visits_with stops visits w e) fs m k none later
 
-not_stopped : (stops : Stops) (p : Profile) (stopped : Bool) (es : List Event) (w : WorldState) → AreNone stops → StoppedSo stops (Usual p) true stopped es w → stopped ≡ false
-not_stopped stops p true es w none stop = absurd (none_after stops p true 0 (es ++ Step ∷ []) w (length es) none stop)
-not_stopped stops p false es w none stop = refl
+pub not_stopped : (stops : Stops) (c : Conduct) (h : Bool) (stopped : Bool) (es : List Event) (w : WorldState) → AreNone stops → StoppedSo stops c h stopped es w → stopped ≡ false
+not_stopped stops c h true es w none stop = absurd (none_after stops c h 0 (es ++ Step ∷ []) w (length es) none stop)
+not_stopped stops c h false es w none stop = refl
 
 held_without_stops : (comes : Conduct → WorldState → Extent → List Event → Type 0) (options : RunOptions) (stops : Stops) (form : SummaryForm) (image : List (Option ℕ)) (text printed punched : List ℕ) (status : Status) →
     AreNone stops → IsHeldToStop comes true options stops no_last form false image text printed punched status → IsHeld (λ p w extent es. comes (Usual p) w extent es) options form image text printed punched status
 held_without_stops comes options stops form image text printed punched status none held =
-    let un = not_stopped stops options.profile held.stopped held.events (fresh image options.start) none held.stop in
+    let un = not_stopped stops (Usual options.profile) true held.stopped held.events (fresh image options.start) none held.stop in
     let during : held.during ≡ traced options.trace held.lines = held.is_traced in
     let last : held.last ≡ [] = held.is_last in
     record {

@@ -37,7 +37,7 @@ use Rattle.machine_commands.specs.WatchText.{IsSeen, watched_status}
 use Rattle.machine_commands.proofs.HoldLemmas.{last_so}
 use Rattle.machine_commands.specs.declared.watched.Progress.{Progress}
 use Rattle.machine_commands.specs.Continued.{line_text, press_of, presses}
-use Rattle.machine_commands.specs.Follows.{Conduct, Declared, FollowsBy, Ended, Stuck, Stopped, Went, end_at, seen_declared}
+use Rattle.machine_commands.specs.Follows.{Conduct, Declared, FollowsBy, Ended, Stuck, Stopped, Went, end_at, seen_declared, unless_stuck}
 use Rattle.machine_commands.specs.WatchedRun.{Breaks, Counted, IsBefore, LedLegally, seen_after_step, seen_watched}
 
 take_front : (es rest : List Event) → take (length es) (es ++ rest) ≡ es
@@ -115,10 +115,14 @@ seen_supported (Group3 o) word is = refl
 seen_supported (Device x) word is = refl
 seen_supported Undefined word is = absurd is
 
+never_stuck : (halts : Bool) → unless_stuck (if halts then seen.Halted else seen.Ran) ≡ (if halts then seen.Halted else seen.Ran)
+never_stuck true = refl
+never_stuck false = refl
+
 unsupported : (m : Meaning) → m ≡ Undefined → IsSupported m → ⊥
 unsupported m is supported = rw is at supported
 
-step_seen : (d : Declaration) (w x : WorldState) (ks ls : Calls) (halted : Option ℕ) → w.halted_at ≡ halted → Goes d w ks Step x ls → seen_after_step (is_some halted) x.halted_at ≡ seen_of d.profile w Step
+step_seen : (d : Declaration) (w x : WorldState) (ks ls : Calls) (halted : Option ℕ) → w.halted_at ≡ halted → Goes d w ks Step x ls → seen_after_step (is_some halted) x.halted_at ≡ unless_stuck (seen_of d.profile w Step)
 step_seen d w x ks ls (Some at) is goes = rw is refl
 step_seen d w x ks ls None is goes =
     let m = instruction d.profile w.state in
@@ -129,7 +133,7 @@ step_seen d w x ks ls None is goes =
       | inl out ↦ seen_by_halt (halts_after m) w.state.pc x.halted_at out.halted_at
       | inr none ↦ absurd (unsupported m none.0 supported)
     ] in
-    rw is (seen_is ∙ sym (seen_supported m (word_at_pc w) supported))
+    rw is (seen_is ∙ (sym (never_stuck (halts_after m)) ∙ ap unless_stuck (sym (seen_supported m (word_at_pc w) supported))))
 
 pub seen_here : (d : Declaration) (w x : WorldState) (ks ls : Calls) (e : Event) → Goes d w ks e x ls → seen_watched e (is_some w.halted_at) x.halted_at ≡ seen_declared d w e
 seen_here d w x ks ls Step goes = step_seen d w x ks ls w.halted_at refl goes

@@ -57,9 +57,14 @@ abbrev pub happens_by : Conduct → WorldState → Event → WorldState → Type
 happens_by (Usual profile) w e x = Happens profile w e x
 happens_by (Declared d) w e x = HappensDeclared d w e x
 
--- What is seen of an event of a declared run, where steps alone matter.
+-- What is seen, but of an unsupported word only that a run goes on after it.
+abbrev pub unless_stuck : Seen → Seen
+unless_stuck (seen.Unsupported word) = seen.Changed
+unless_stuck what = what
+
+-- What is seen of an event of a declared run, where steps alone matter. No legal step is at an unsupported word.
 abbrev pub seen_declared : Declaration → WorldState → Event → Seen
-seen_declared d w Step = seen_of d.profile w Step
+seen_declared d w Step = unless_stuck (seen_of d.profile w Step)
 seen_declared d w _ = seen.Changed
 
 -- What is seen of an event.

@@ -1,6 +1,5 @@
 use Rattle.std.proofs.Common.{◌∙◌}
 use Rattle.peripherals.specs.World.{view}
-use Rattle.machine_commands.specs.Driving.{printed_from}
 use Rattle.machine_commands.proofs.RecordLemmas.{between}
 use Rattle.machine_commands.proofs.recorder.advance.Goals as goal
 

@@ -28,8 +28,8 @@ loop-event-init g c = record {
   silent = λ quiet. refl;
 }
 
-pub visits_past-requires : goal.visits_past-requires
-visits_past-requires g c =
+pub visits_past-requires-clause-few : goal.visits_past-requires-clause-few
+visits_past-requires-clause-few g c =
     let inv = c.loop-event.invariant in
     let taken : steps_in c.in-Some.event + g.S.Scheduler.steps_to_come c.next_event.new.self ≤ g.S.Scheduler.steps_to_come c.loop-event.schedule = rw c.in-Some.is at c.in_ok-event.ensures.steps in
     let few : g.S.Scheduler.steps_to_come c.args.schedule.now < 18446744073709551616 = c.requires.few in
@@ -52,9 +52,9 @@ pub loop-event-preserved : goal.loop-event-preserved
 loop-event-preserved g c =
     let inv = c.loop-event.invariant in
     let conduct = g.M.Machine.conduct c.args.machine.now in
-    let next : IsNext g.S.Scheduler.brings (g.S.Scheduler.ends c.args.schedule.now) c.loop-event.schedule c.next_event.new.self (g.M.Machine.state c.loop-event.machine) c.in-Some.event = rw (c.in-Some.is, inv.ends) at c.in_ok-event.ensures.due in
+    let next : IsNext g.S.Scheduler.brings (g.S.Scheduler.ends c.args.schedule.now) c.loop-event.schedule c.next_event.new.self (g.M.Machine.state c.loop-event.machine) c.in-Some.event = rw (c.in-Some.is, c.world.ensures.state, inv.ends) at c.in_ok-event.ensures.due in
     let seen : IsTaken conduct (g.M.Machine.state c.loop-event.machine) c.in-Some.event (g.M.Machine.state c.advance.new.machine) (g.M.Machine.breaks c.advance.new.machine) (Saw c.in-Saw.seen) = rw (inv.conduct, c.in-Saw.is) at c.in_ok-advance.ensures.taken in
-    let passed : Passes c.args.stops.now (profile_in conduct) c.loop-event.visits (g.M.Machine.state c.loop-event.machine) c.in-Some.event (Some c.in-Some-visits_past.more) = rw (inv.conduct, c.in-Some-visits_past.is) at c.visits_past.ensures.passes in
+    let passed : Passes c.args.stops.now (profile_in conduct) c.loop-event.visits (g.M.Machine.state c.loop-event.machine) c.in-Some.event (Some c.in-Some-visits_past.more) = rw (c.world-2.ensures.state, c.world-2.ensures.profile, inv.conduct, c.in-Some-visits_past.is) at c.visits_past.ensures.passes in
     let fewer : g.S.Scheduler.events_to_come c.next_event.new.self < g.S.Scheduler.events_to_come c.loop-event.schedule = rw c.in-Some.is at c.in_ok-event.ensures.fewer in
     let goes : goes_on (g.S.Scheduler.ends c.args.schedule.now) c.in-Saw.seen ≡ true = search rules in
     let taken : steps_in c.in-Some.event + g.S.Scheduler.steps_to_come c.next_event.new.self ≤ g.S.Scheduler.steps_to_come c.loop-event.schedule = rw c.in-Some.is at c.in_ok-event.ensures.steps in
@@ -86,9 +86,9 @@ pub returns-in_default-visits_past-clause-ran : goal.returns-in_default-visits_p
 returns-in_default-visits_past-clause-ran g c =
     let inv = c.loop-event.invariant in
     let conduct = g.M.Machine.conduct c.args.machine.now in
-    let due : c.in-Some.event ≡ Step → (d : Conduct) → g.S.Scheduler.brings c.loop-event.schedule d (g.M.Machine.state c.loop-event.machine) ToStep (Step ∷ []) = rw c.in-Some.is at c.in_ok-event.ensures.to_step in
+    let due : c.in-Some.event ≡ Step → (d : Conduct) → g.S.Scheduler.brings c.loop-event.schedule d (g.M.Machine.state c.loop-event.machine) ToStep (Step ∷ []) = rw (c.in-Some.is, c.world.ensures.state) at c.in_ok-event.ensures.to_step in
     let none : c.visits_past.result ≡ None = search rules in
-    let on : stops_before c.args.stops.now (profile_in conduct) c.loop-event.visits (g.M.Machine.state c.loop-event.machine) c.in-Some.event ≡ true = rw (inv.conduct, none) at c.visits_past.ensures.passes in
+    let on : stops_before c.args.stops.now (profile_in conduct) c.loop-event.visits (g.M.Machine.state c.loop-event.machine) c.in-Some.event ≡ true = rw (c.world-2.ensures.state, c.world-2.ensures.profile, inv.conduct, none) at c.visits_past.ensures.passes in
     un_to_stop g.S.Scheduler.brings (g.S.Scheduler.ends c.args.schedule.now) conduct c.args.stops.now _ _ _ g.S.Scheduler.events_to_come c.args.schedule.now c.loop-event.schedule c.in-Some.event (g.M.Machine.state c.args.machine.now) (g.M.Machine.state c.loop-event.machine) c.loop-event.steps c.loop-event.visits _ _ _
     inv.un due on (search rules) (search rules) (search rules)
 
@@ -96,7 +96,7 @@ pub returns-in-Breaks-clause-ran : goal.returns-in-Breaks-clause-ran
 returns-in-Breaks-clause-ran g c =
     let inv = c.loop-event.invariant in
     let conduct = g.M.Machine.conduct c.args.machine.now in
-    let due : c.in-Some.event ≡ Step → (d : Conduct) → g.S.Scheduler.brings c.loop-event.schedule d (g.M.Machine.state c.loop-event.machine) ToStep (Step ∷ []) = rw c.in-Some.is at c.in_ok-event.ensures.to_step in
+    let due : c.in-Some.event ≡ Step → (d : Conduct) → g.S.Scheduler.brings c.loop-event.schedule d (g.M.Machine.state c.loop-event.machine) ToStep (Step ∷ []) = rw (c.in-Some.is, c.world.ensures.state) at c.in_ok-event.ensures.to_step in
     let broke : IsTaken conduct (g.M.Machine.state c.loop-event.machine) c.in-Some.event (g.M.Machine.state c.advance.new.machine) (g.M.Machine.breaks c.advance.new.machine) (Breaks c.in-Breaks.rule) = rw (inv.conduct, c.in-Breaks.is) at c.in_ok-advance.ensures.taken in
     un_to_break g.S.Scheduler.brings (g.S.Scheduler.ends c.args.schedule.now) conduct c.args.stops.now _ (λ (es : List Event). g.M.Machine.known c.args.machine.now es c.advance.new.machine) (g.M.Machine.breaks c.advance.new.machine)
     _ (λ (ls : List ℕ). Recorded c.advance.new.recorder ls (g.W.ByteSink.taken c.args.report.now) (g.W.ByteSink.taken c.advance.new.report))
@@ -109,9 +109,9 @@ pub returns-then-not-goes_on-clause-ran : goal.returns-then-not-goes_on-clause-r
 returns-then-not-goes_on-clause-ran g c =
     let inv = c.loop-event.invariant in
     let conduct = g.M.Machine.conduct c.args.machine.now in
-    let next : IsNext g.S.Scheduler.brings (g.S.Scheduler.ends c.args.schedule.now) c.loop-event.schedule c.next_event.new.self (g.M.Machine.state c.loop-event.machine) c.in-Some.event = rw (c.in-Some.is, inv.ends) at c.in_ok-event.ensures.due in
+    let next : IsNext g.S.Scheduler.brings (g.S.Scheduler.ends c.args.schedule.now) c.loop-event.schedule c.next_event.new.self (g.M.Machine.state c.loop-event.machine) c.in-Some.event = rw (c.in-Some.is, c.world.ensures.state, inv.ends) at c.in_ok-event.ensures.due in
     let seen : IsTaken conduct (g.M.Machine.state c.loop-event.machine) c.in-Some.event (g.M.Machine.state c.advance.new.machine) (g.M.Machine.breaks c.advance.new.machine) (Saw c.in-Saw.seen) = rw (inv.conduct, c.in-Saw.is) at c.in_ok-advance.ensures.taken in
-    let passed : Passes c.args.stops.now (profile_in conduct) c.loop-event.visits (g.M.Machine.state c.loop-event.machine) c.in-Some.event (Some c.in-Some-visits_past.more) = rw (inv.conduct, c.in-Some-visits_past.is) at c.visits_past.ensures.passes in
+    let passed : Passes c.args.stops.now (profile_in conduct) c.loop-event.visits (g.M.Machine.state c.loop-event.machine) c.in-Some.event (Some c.in-Some-visits_past.more) = rw (c.world-2.ensures.state, c.world-2.ensures.profile, inv.conduct, c.in-Some-visits_past.is) at c.visits_past.ensures.passes in
     let fewer : g.S.Scheduler.events_to_come c.next_event.new.self < g.S.Scheduler.events_to_come c.loop-event.schedule = rw c.in-Some.is at c.in_ok-event.ensures.fewer in
     let over : goes_on (g.S.Scheduler.ends c.args.schedule.now) c.in-Saw.seen ≡ false = search rules in
     un_last g.S.Scheduler.brings (g.S.Scheduler.ends c.args.schedule.now) conduct c.args.stops.now _ (λ (es : List Event). g.M.Machine.known c.args.machine.now es c.advance.new.machine) _
@@ -126,4 +126,4 @@ returns-clause-ran g c =
     let inv = c.loop-event.invariant in
     let none : c.next_event.result ≡ Ok None = search rules in
     un_all g.S.Scheduler.brings (g.S.Scheduler.ends c.args.schedule.now) (g.M.Machine.conduct c.args.machine.now) c.args.stops.now _ _ _ g.S.Scheduler.events_to_come c.args.schedule.now c.loop-event.schedule (g.M.Machine.state c.args.machine.now) (g.M.Machine.state c.loop-event.machine) c.loop-event.steps c.loop-event.visits _ _ _
-    inv.un (λ d extent. c.next_event.ensures.over none d extent) (search rules) (search rules) (search rules)
+    inv.un (λ d extent. rw c.world.ensures.state at (c.next_event.ensures.over none d extent)) (search rules) (search rules) (search rules)

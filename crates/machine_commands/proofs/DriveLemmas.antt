@@ -84,6 +84,10 @@ leads_here c h es w lines n x leads =
     let done : FollowsBy c h (es ++ []) w (lines ++ []) (n + 0) (end_of x) x = leads [] [] 0 (end_of x) x (Ended x) in
     rw (append-nil es, append-nil lines, add-zero n) at done
 
+-- an unsupported word has no line
+no_trace : (c : Conduct) (e : Event) (x y : WorldState) (word : ℕ) → seen_by c x e ≡ seen.Unsupported word → trace_by c x e y ≡ []
+no_trace c e x y word is = rw is refl
+
 -- the run ends with an event
 last_one : (c : Conduct) (h : Bool) (e : Event) (x y : WorldState) (what : Seen) → seen_by c x e ≡ what → goes_on h what ≡ false → happens_by c x e y → FollowsBy c h (e ∷ []) x (trace_by c x e y) (counted what) (end_after what y) y
 last_one c h e x y seen.NotEnabled is over happens = absurd (true≢false over)
@@ -91,7 +95,7 @@ last_one c h e x y seen.Changed is over happens = absurd (true≢false over)
 last_one c h e x y seen.Ran is over happens = absurd (true≢false over)
 last_one c true e x y seen.Halted is over happens = Stopped e [] x y refl is happens
 last_one c false e x y seen.Halted is over happens = absurd (true≢false over)
-last_one c h e x y (seen.Unsupported word) is over happens = rw is (Stuck e [] x y word is happens)
+last_one c h e x y (seen.Unsupported word) is over happens = rw (no_trace c e x y word is) (Stuck e [] x y word is happens)
 
 -- None of these events stops the run from w, and so many steps among them came to the address: where events behind them stop it, or never
 -- do, all of them do.

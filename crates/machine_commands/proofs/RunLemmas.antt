@@ -20,6 +20,7 @@ use Rattle.machine_commands.specs.StoppedSession.{IsHeldToStop}
 use Rattle.machine_commands.specs.Stopping.{IsRunWithStops}
 use Rattle.machine_commands.specs.Stops.{AreNone, NeverStops, StopsAfter, Here, Later, Ends, Continues, visits_with}
 use Rattle.machine_commands.specs.Summary.{whole_form}
+use Rattle.machine_commands.specs.Trace.{traced}
 use Rattle.machine_commands.proofs.StopLawLemmas.{none_after, not_halted, not_stuck}
 
 -- What comes of a list in a run.
@@ -113,6 +114,7 @@ held_cut : (options : RunOptions) (stops : Stops) (shown : Shown) (h : Bool) (es
     IsHeldToStop (listed h es) h options stops shown whole_form false image text printed punched status → IsRunWithStops options stops shown h es image text status
 held_cut options stops shown h es image text printed punched status held = by_stop held.stopped refl
   where
+    w : WorldState
     w = fresh image options.start
 
     by_stop : (stopped : Bool) → held.stopped ≡ stopped → IsRunWithStops options stops shown h es image text status
@@ -157,8 +159,8 @@ pub run_of_all : (options : RunOptions) (stops : Stops) (h : Bool) (es : List Ev
 run_of_all options stops h es image text status none run = elim run.is_cut [
   | inl k ↦ absurd (none_after stops (Usual options.profile) h 0 es (fresh image options.start) k.0 none k.1)
   | inr k ↦ (let told = run.is in
-      let during = told.is_traced in
-      let last = told.is_last in
+      let during : told.during ≡ traced options.trace told.lines = told.is_traced in
+      let last : told.last ≡ [] = told.is_last in
       record { lines = told.lines; steps = told.steps; end = told.end; final = told.final; follows = rw k.1 at told.follows; text_is = rw (k.2, during, last) at told.text_is; status_is = rw k.2 at told.status_is })
 ]
 

@@ -9,11 +9,12 @@ use Rattle.command_parts.specs.declared.options.RunOptions.{RunOptions}
 use Rattle.command_parts.specs.declared.options.Stops.{Stops}
 use Rattle.command_parts.specs.declared.status.Fault.{Fault}
 use Rattle.command_parts.specs.declared.status.Status.{Status}
+use Rattle.command_parts.specs.Inputs.{HasEvents, HasImage}
 use Rattle.command_parts.specs.Writes.{FrontOf, Writes}
 use Rattle.machine_commands.specs.declared.follow.End.{End}
-use Rattle.machine_commands.specs.Follows.{Conduct, Follows, Stuck, Stopped, Usual, Went, goes_on, seen_by}
+use Rattle.machine_commands.specs.Follows.{Conduct, Follows, Stuck, Stopped, Usual, Went, goes_on, rounds, seen_by}
 use Rattle.machine_commands.specs.Last.{Shown, no_last}
-use Rattle.machine_commands.specs.Running.{IsRunOf, fresh}
+use Rattle.machine_commands.specs.Running.{IsEventRun, IsRoundRun, IsRunOf, fresh}
 use Rattle.machine_commands.specs.Schedule.{ComesBy, Over, Due, Final, Then, Extent, ToStep, Whole, listing}
 use Rattle.machine_commands.specs.Session.{WritesAll, taken}
 use Rattle.machine_commands.specs.StoppedSession.{IsHeldToStop}
@@ -164,11 +165,36 @@ run_of_all options stops h es image text status none run = elim run.is_cut [
       record { lines = told.lines; steps = told.steps; end = told.end; final = told.final; follows = rw k.1 at told.follows; text_is = rw (k.2, during, last) at told.text_is; status_is = rw k.2 at told.status_is })
 ]
 
-pub all_ok : (options : RunOptions) (stops : Stops) (h : Bool) (es : List Event) (image : List (Option ℕ)) (r : Result Status Fault) (old new : Option (List ℕ)) → AreNone stops →
-    IfOk r (λ status. Writes (λ text. IsRunWithStops options stops no_last h es image text status) old new) → IfOk r (λ status. Writes (λ text. IsRunOf options h es image text status) old new)
-all_ok options stops h es image (Ok status) old new none writes = record { text = writes.text; is = run_of_all options stops h es image writes.text status none writes.is; written = writes.written }
-all_ok options stops h es image (Err fault) old new none writes = tt
+pub round_ok : (options : RunOptions) (stops : Stops) (frames : Option (List ℕ)) (image : List (Option ℕ)) (r : Result Status Fault) (old new : Option (List ℕ)) → AreNone stops → HasImage frames image →
+    IfOk r (λ status. Writes (λ text. IsRunWithStops options stops no_last true (rounds options.rounds) image text status) old new) → IfOk r (λ status. Writes (λ text. IsRoundRun options frames text status) old new)
+round_ok options stops frames image (Ok status) old new none tape writes = record {
+  text = writes.text;
+  is = record { image = image; tape = tape; run = run_of_all options stops true (rounds options.rounds) image writes.text status none writes.is };
+  written = writes.written;
+}
+round_ok options stops frames image (Err fault) old new none tape writes = tt
 
-pub all_front : (options : RunOptions) (stops : Stops) (h : Bool) (es : List Event) (image : List (Option ℕ)) (old new : Option (List ℕ)) → AreNone stops →
-    FrontOf (λ text. (status : Status) × IsRunWithStops options stops no_last h es image text status) old new → FrontOf (λ text. (status : Status) × IsRunOf options h es image text status) old new
-all_front options stops h es image old new none front = record { text = front.text; is = (front.is.0, run_of_all options stops h es image front.text front.is.0 none front.is.1); front = front.front }
+pub round_front : (options : RunOptions) (stops : Stops) (frames : Option (List ℕ)) (image : List (Option ℕ)) (old new : Option (List ℕ)) → AreNone stops → HasImage frames image →
+    FrontOf (λ text. (status : Status) × IsRunWithStops options stops no_last true (rounds options.rounds) image text status) old new → FrontOf (λ text. (status : Status) × IsRoundRun options frames text status) old new
+round_front options stops frames image old new none tape front = record {
+  text = front.text;
+  is = (front.is.0, record { image = image; tape = tape; run = run_of_all options stops true (rounds options.rounds) image front.text front.is.0 none front.is.1 });
+  front = front.front;
+}
+
+pub event_ok : (options : RunOptions) (stops : Stops) (frames list : Option (List ℕ)) (image : List (Option ℕ)) (events : List Event) (r : Result Status Fault) (old new : Option (List ℕ)) → AreNone stops → HasImage frames image → HasEvents list events →
+    IfOk r (λ status. Writes (λ text. IsRunWithStops options stops no_last false events image text status) old new) → IfOk r (λ status. Writes (λ text. IsEventRun options frames list text status) old new)
+event_ok options stops frames list image events (Ok status) old new none tape spelled writes = record {
+  text = writes.text;
+  is = record { image = image; tape = tape; events = events; spelled = spelled; run = run_of_all options stops false events image writes.text status none writes.is };
+  written = writes.written;
+}
+event_ok options stops frames list image events (Err fault) old new none tape spelled writes = tt
+
+pub event_front : (options : RunOptions) (stops : Stops) (frames list : Option (List ℕ)) (image : List (Option ℕ)) (events : List Event) (old new : Option (List ℕ)) → AreNone stops → HasImage frames image → HasEvents list events →
+    FrontOf (λ text. (status : Status) × IsRunWithStops options stops no_last false events image text status) old new → FrontOf (λ text. (status : Status) × IsEventRun options frames list text status) old new
+event_front options stops frames list image events old new none tape spelled front = record {
+  text = front.text;
+  is = (front.is.0, record { image = image; tape = tape; events = events; spelled = spelled; run = run_of_all options stops false events image front.text front.is.0 none front.is.1 });
+  front = front.front;
+}

@@ -2,27 +2,18 @@
 
 ghost use Rattle.std.specs.Prelude.{◌≡◌, ◌||◌, false, true, IfOk, IfErr, OnOk, OnErr};
 ghost use Rattle.command_parts.specs.Dumping.{IsDump};
-ghost use Rattle.command_parts.specs.Faults.{is_fault_of_tape, fails_to_read, fails_to_write, IsEventRunFault, IsRunFault, IsTapeFault};
-ghost use Rattle.machine_commands.specs.Course.{ends_at_halt, events_in};
+ghost use Rattle.command_parts.specs.Faults.{is_fault_of_tape, fails_to_read, fails_to_write, IsEventRunFault, IsTapeFault};
 ghost use Rattle.command_parts.specs.Inputs.{TakesAtMost, TakesTape, input};
-ghost use Rattle.machine_commands.specs.Running.{IsEventRun, IsRoundRun, IsRunOf, status_of};
-ghost use Rattle.machine_commands.specs.StoppedSession.{shown_by};
-ghost use Rattle.machine_commands.specs.Stopping.{IsRunWithStops};
-ghost use Rattle.machine_commands.specs.Summary.{whole_form};
+ghost use Rattle.machine_commands.specs.Running.{IsEventRun, IsRoundRun, status_of};
 ghost use Rattle.command_parts.specs.Writes.{FrontOf, Writes};
 ghost use Rattle.command_parts.specs.declared.status.Status.{Status};
 ghost use Rattle.command_parts.specs.declared.status.Status.TheVariants.{Done};
 
-use crate::driving::Nowhere;
 use crate::follow::{Course, End};
-use crate::long_trace::{MnemonicStatements, Statements};
-use crate::schedule::CourseSchedule;
-use crate::session::{RunPlan, TraceOptions, run_scheduled};
-use crate::stopping::no_stops;
-use bin_tape::Image;
+use crate::long_trace::MnemonicStatements;
+use crate::stopping::{TraceOptions, no_stops, run_with_stops};
 use command_parts::inputs::{events_from, tape_from};
 pub use command_parts::options::RunOptions;
-use command_parts::options::SummaryForm;
 use command_parts::status::{Fault, Status};
 use command_parts::text::dump_of;
 use instruct::Profile;
@@ -43,64 +34,6 @@ pub(crate) fn status_of(end: End) -> Status
         End::Unsupported(_) => Status::Refused,
         End::Halted(_) | End::Bound(_) | End::Stopped(_) | End::Interrupted(_) => Status::Done,
     }
-}
-
-/// Lets an image's machine go through a course up to where it is stopped, and writes the trace, if it is requested, the
-/// lines of its last instructions, if so many or all are, the summary, and the cells that are to be shown.
-pub(crate) fn run_course<A: Allocator + Copy, N: Statements, W: ByteSink>(
-    alloc: A,
-    plan: &RunPlan<'_, N>,
-    course: &Course<'_>,
-    out: &mut W,
-) -> Result<Status, Fault>
-    requires writable { W.mark out.old ≡ false }
-    requires whole { plan.now.form ≡ whole_form }
-    ensures run { IfOk result (λ status. Writes
-        (λ text. IsRunWithStops plan.now.options plan.now.stops.now (shown_by plan.now.trace)
-        (ends_at_halt course.now) (events_in course.now) plan.now.image.now text status)
-        (W.taken out.old) (W.taken out.new)) }
-    ensures front { W.mark out.new ≡ true → plan.now.options.trace ≡ false → FrontOf
-        (λ text. (status : Status) × IsRunWithStops plan.now.options plan.now.stops.now (shown_by plan.now.trace)
-        (ends_at_halt course.now) (events_in course.now) plan.now.image.now text status)
-        (W.taken out.old) (W.taken out.new) }
-    ensures nothing { OnErr result (W.mark out.new ≡ false → plan.now.options.trace ≡ false →
-        W.taken out.new ≡ W.taken out.old) }
-    ensures faults { IfErr result IsRunFault }
-    ensures marks { W.mark out.new ≡ fails_to_write result }
-{
-    let mut schedule = CourseSchedule::new(*course);
-    run_scheduled(alloc, plan, &mut schedule, out, &mut Nowhere, &mut Nowhere)
-}
-
-/// Runs an image by a course without stops, and writes as [`run`] does.
-fn run_whole<A: Allocator + Copy, W: ByteSink>(
-    alloc: A,
-    image: &Image,
-    options: RunOptions,
-    course: &Course<'_>,
-    out: &mut W,
-) -> Result<Status, Fault>
-    requires { W.mark out.old ≡ false }
-    ensures run { IfOk result (λ status. Writes
-        (λ text. IsRunOf options (ends_at_halt course.now) (events_in course.now) image.now text status)
-        (W.taken out.old) (W.taken out.new)) }
-    ensures front { W.mark out.new ≡ true → options.trace ≡ false → FrontOf
-        (λ text. (status : Status) × IsRunOf options (ends_at_halt course.now) (events_in course.now) image.now text status)
-        (W.taken out.old) (W.taken out.new) }
-    ensures nothing { OnErr result (W.mark out.new ≡ false → options.trace ≡ false →
-        W.taken out.new ≡ W.taken out.old) }
-    ensures faults { IfErr result IsRunFault }
-    ensures marks { W.mark out.new ≡ fails_to_write result }
-{
-    let stops = no_stops();
-    let plan = RunPlan {
-        image,
-        options,
-        stops: &stops,
-        trace: SHORT_TRACE,
-        form: SummaryForm::WHOLE,
-    };
-    run_course(alloc, &plan, course, out)
 }
 
 /// Runs a tape in rounds of an instruction, a completion of the printer and one of the punch, and
@@ -140,7 +73,8 @@ pub fn run<A: Allocator + Copy, R: ByteSource, W: ByteSink>(
     ensures takes_tape { TakesTape (R.remaining tape.old) (R.remaining tape.new) }
 {
     let image = tape_from(tape)?;
-    run_whole(alloc, &image, options, &Course::Rounds(options.rounds), out)
+    let (stops, course) = (no_stops(), Course::Rounds(options.rounds));
+    run_with_stops(alloc, &image, &options, &stops, SHORT_TRACE, &course, out)
 }
 
 /// Runs a tape by the events of a text in place of rounds, and writes as [`run`] does. The run ends
@@ -183,7 +117,8 @@ pub fn run_events<A: Allocator + Copy, R: ByteSource, E: ByteSource, W: ByteSink
 {
     let image = tape_from(tape)?;
     let list = events_from(alloc, text)?;
-    run_whole(alloc, &image, options, &Course::Listed(&list), out)
+    let (stops, course) = (no_stops(), Course::Listed(&list));
+    run_with_stops(alloc, &image, &options, &stops, SHORT_TRACE, &course, out)
 }
 
 /// Writes a line for each word of a tape, in rising order of the addresses: the address, the word

@@ -1,19 +1,21 @@
 //! The run of an image up to where it is stopped.
 
-ghost use Rattle.std.specs.Prelude.{◌≡◌, false, None, IfOk, IfErr};
+ghost use Rattle.std.specs.Prelude.{◌≡◌, false, true, None, IfOk, IfErr, OnErr};
 ghost use Rattle.wordset.specs.Lanes.{words};
 ghost use Rattle.wordset.specs.Words.{nothing};
 ghost use Rattle.command_parts.specs.Faults.{fails_to_write, IsRunFault};
-ghost use Rattle.command_parts.specs.Writes.{Writes};
+ghost use Rattle.command_parts.specs.Writes.{FrontOf, Writes};
+ghost use Rattle.command_parts.specs.declared.status.Status.{Status};
 ghost use Rattle.machine_commands.specs.Course.{ends_at_halt, events_in};
 ghost use Rattle.machine_commands.specs.StoppedSession.{shown_by};
 ghost use Rattle.machine_commands.specs.Stopping.{IsRunWithStops};
 
+use crate::driving::Nowhere;
 use crate::follow::Course;
 use crate::long_trace::Statements;
-use crate::running::run_course;
-use crate::session::RunPlan;
+use crate::schedule::CourseSchedule;
 pub use crate::session::TraceOptions;
+use crate::session::{RunPlan, run_scheduled};
 use bin_tape::Image;
 use command_parts::options::{RunOptions, Stops, SummaryForm};
 use command_parts::status::{Fault, Status};
@@ -59,6 +61,14 @@ pub fn run_with_stops<A: Allocator + Copy, N: Statements, W: ByteSink>(
         (events_in course.now) image.now text status)
         (W.taken out.old) (W.taken out.new)) }
     ensures faults { IfErr result IsRunFault }
+    // Without a trace, a prefix of that went out if a write failed,
+    ensures front { W.mark out.new ≡ true → options.now.trace ≡ false → FrontOf
+        (λ text. (status : Status) × IsRunWithStops options.now stops.now (shown_by trace)
+        (ends_at_halt course.now) (events_in course.now) image.now text status)
+        (W.taken out.old) (W.taken out.new) }
+    // and any other fault leaves the output as it was.
+    ensures nothing { OnErr result (W.mark out.new ≡ false → options.now.trace ≡ false →
+        W.taken out.new ≡ W.taken out.old) }
     // A write failed if and only if the answer says so.
     ensures marks { W.mark out.new ≡ fails_to_write result }
 {
@@ -69,5 +79,6 @@ pub fn run_with_stops<A: Allocator + Copy, N: Statements, W: ByteSink>(
         trace,
         form: SummaryForm::WHOLE,
     };
-    run_course(alloc, &plan, course, out)
+    let mut schedule = CourseSchedule::new(*course);
+    run_scheduled(alloc, &plan, &mut schedule, out, &mut Nowhere, &mut Nowhere)
 }

@@ -20,15 +20,20 @@ var 0010 0224                      /it may change these two words
 pause 0212                         /it may halt here
 ";
 
-/// The address and the word of an instruction that stores into 0223, which the declaration does not allow. On the tape, the
-/// instruction stores into 0224.
-const MISTAKE: (usize, usize) = (0o205, 0o3223);
+/// The address of the instruction that is changed. On the tape, it stores into 0224.
+const CHANGED: usize = 0o205;
+
+/// The instruction that takes its place. It stores into 0223, which the declaration does not allow.
+const MISTAKE: usize = 0o3223;
 
 /// The maximum number of instructions that are run, as for `pdp8 run` without `--steps`.
 const MOST_INSTRUCTIONS: u32 = 100_000;
 
-/// The seed of the search for a run, and its maximum number of steps, as for `pdp8 verify`.
-const SEARCH: (u64, u32) = (1, 20_000_000);
+/// The seed of the search for a run, as for `pdp8 verify`.
+const SEED: u64 = 1;
+
+/// The maximum number of steps of that search, as for `pdp8 verify`.
+const MOST_STEPS: u32 = 20_000_000;
 
 /// Runs the program until it halts, and shows the letters that it prints.
 fn show_run<R: Print + AllocGlobal, D: Allocator>(
@@ -80,9 +85,8 @@ fn show_answer<R: Print + AllocGlobal, D: Allocator>(
     if guess(rt.alloc(), image, declaration).is_ok() {
         return show_yes(rt, declaration);
     }
-    let (seed, steps) = SEARCH;
-    let mut turns = Turns::new(steps);
-    match refute_within(rt.alloc(), image, declaration, seed, &mut turns)? {
+    let mut turns = Turns::new(MOST_STEPS);
+    match refute_within(rt.alloc(), image, declaration, SEED, &mut turns)? {
         Some(run) => {
             let (event, rule) = (run.event, run.rule.number());
             println!(rt; "no: event {event} rule {rule}")?;
@@ -102,8 +106,7 @@ fn main(rt: HostRuntime) -> anyhow::Result<()> {
     show_answer(&rt, &image, &declaration)?;
     println!(rt; "That is: no run executes, changes or halts at anything else.")?;
     println!(rt; "\nWith one mistake, a store into 0223 in place of 0224, it prints:")?;
-    let (at, word) = MISTAKE;
-    image.set(Word::from_index(at), Word::from_index(word));
+    image.set(Word::from_index(CHANGED), Word::from_index(MISTAKE));
     show_run(&rt, &image, &declaration)?;
     show_answer(&rt, &image, &declaration)?;
     println!(rt;

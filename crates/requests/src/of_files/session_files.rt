@@ -3,7 +3,7 @@
 ghost use Rattle.std.specs.Prelude.{◌≡◌, false};
 
 use crate::files::{open_input, write_fault};
-use crate::of_machine::places::{stops_of, trace_options};
+use crate::of_machine::places::{RequestedTrace, stops_of, trace_options};
 use crate::replacing::ResultFile;
 use crate::standard_error::{NullSink, open_input_if, report_to, tell_to};
 use command_line::{Interrupt, Session, TeletypeSession};
@@ -118,7 +118,8 @@ fn hold_session_with<
     };
     let stopping = stops_of(&session.stopping);
     let mut options = session.options;
-    options.run.trace = options.run.trace || session.long;
+    let requested = RequestedTrace::of(options.run.trace, session.long);
+    options.run.trace = requested != RequestedTrace::None;
     let answer = run_session(
         alloc,
         frames,
@@ -126,7 +127,7 @@ fn hold_session_with<
         keys,
         options,
         &stopping.stops,
-        trace_options(statements, session.long, stopping.last),
+        trace_options(statements, requested, stopping.last),
         form,
         &mut outputs,
     );
@@ -244,7 +245,7 @@ fn hold_typed<
     };
     let mut typist = Typist::new(reader, keys, session.options);
     let stopping = stops_of(&session.stopping);
-    let trace = trace_options(statements, false, stopping.last);
+    let trace = trace_options(statements, RequestedTrace::None, stopping.last);
     let stops = &stopping.stops;
     let answer = teletype(alloc, frames, &mut typist, stops, trace, form, &mut outputs);
     finish_punch(&mut punch, answer)

@@ -3,7 +3,7 @@
 ghost use Rattle.std.specs.Prelude.{◌≡◌, false};
 
 use crate::files::{finish, open_input, open_output};
-use crate::of_machine::places::{stops_of, trace_options};
+use crate::of_machine::places::{RequestedTrace, stops_of, trace_options};
 use crate::of_machine::words::words_of;
 use crate::standard_error::open_input_if;
 use crate::telling::tell_lines;
@@ -55,11 +55,12 @@ fn run_course<R: Print, N: Statements>(
     statements: &N,
 ) -> Result<Status, Fault> {
     let StopOptions { stops, last } = stops_of(&request.stopping);
+    let requested = RequestedTrace::of(request.options.trace, request.long);
     let options = RunOptions {
-        trace: request.options.trace || request.long,
+        trace: requested != RequestedTrace::None,
         ..request.options
     };
-    let trace = trace_options(statements, request.long, last);
+    let trace = trace_options(statements, requested, last);
     let mut out = StdWriter::new(io::writer(rt));
     run_with_stops(alloc, image, &options, &stops, trace, course, &mut out)
 }

@@ -68,16 +68,39 @@ pub(crate) fn stops_of(stopping: &Option<StopOptions>) -> StopOptions {
     }
 }
 
-/// How the instructions of a run are shown: in long lines if these are requested, and the last ones also if these
-/// statements say more.
+/// The trace that is requested, if one is.
+#[derive(Clone, Copy, PartialEq, Eq, Debug)]
+pub(crate) enum RequestedTrace {
+    None,
+    Short,
+    Long,
+}
+
+impl RequestedTrace {
+    /// The trace that these options request; they are not given together.
+    pub(crate) fn of(is_short: bool, is_long: bool) -> RequestedTrace {
+        match (is_short, is_long) {
+            (false, false) => RequestedTrace::None,
+            (true, false) => RequestedTrace::Short,
+            (_, true) => RequestedTrace::Long,
+        }
+    }
+}
+
+/// How the instructions of a run are shown: in long lines if a long trace is requested, and the last ones alone also if
+/// these statements say more.
 pub(crate) fn trace_options<N: Statements>(
     statements: &N,
-    is_long: bool,
+    requested: RequestedTrace,
     last: Option<u32>,
 ) -> TraceOptions<'_, N> {
-    let is_named = last.is_some() && statements.says_more();
+    let is_long = match requested {
+        RequestedTrace::None => last.is_some() && statements.says_more(),
+        RequestedTrace::Short => false,
+        RequestedTrace::Long => true,
+    };
     TraceOptions {
         last,
-        statements: (is_long || is_named).then_some(statements),
+        statements: is_long.then_some(statements),
     }
 }

@@ -4,7 +4,7 @@ ghost use Rattle.std.specs.Prelude.{◌≡◌, false};
 
 use crate::files::{finish, open_input, open_output};
 use crate::named_files::NamedFiles;
-use crate::of_machine::places::{ResolvedPlaces, resolve_places, stops_of, trace_options};
+use crate::of_machine::places::{RequestedTrace, ResolvedPlaces, resolve_places, stops_of, trace_options};
 use crate::of_machine::words::SourceStatements;
 use crate::of_programs::open::OpenProgram;
 use crate::of_sources::assembled::AssembledSource;
@@ -67,7 +67,7 @@ impl WatchedOperator<'_> {
             session.continues,
             &WatchOptions {
                 stops: &self.stopping.stops,
-                trace: trace_options(statements, false, self.stopping.last),
+                trace: trace_options(statements, RequestedTrace::None, self.stopping.last),
                 explained: session.explained,
                 show: &self.options.run.show,
             },
@@ -265,7 +265,7 @@ impl<R: Files + Input + Print + Eprint, I: Read + Drop> OpenProgram<'_, '_, R, I
         let stopping = stops_of(&places.stopping);
         let options = WatchOptions {
             stops: &stopping.stops,
-            trace: trace_options(statements, false, stopping.last),
+            trace: trace_options(statements, RequestedTrace::None, stopping.last),
             explained: self.request.explained,
             show: &places.show,
         };

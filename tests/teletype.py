@@ -123,7 +123,7 @@ TELLING = [
 STOPPING = [
     ((), [TOLD]),
     (('H',), [TOLD, 'H']),
-    (('I',), [TOLD, 'H', '0202 6031 KSF AC=0000 L=1', '0204 6036 KRB AC=0311 L=1', '0205 4213 JMS C013 AC=0311 L=1',
+    (('I',), [TOLD, 'H', '0202 NEXT  KSF   AC=0000 L=1', '0204 NEXT+2  KRB   AC=0311 L=1', '0205 NEXT+3  JMS TYPE   0213: 0206 -> 0206   AC=0311 L=1',
               'STOPPED 0214 AC=0311 L=1 PC=0214 STEPS=18', '0213 0206', 'OVER']),
 ]
 # What was punched before ^E is in the file, and the cell is shown.

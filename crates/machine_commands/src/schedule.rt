@@ -82,10 +82,10 @@ impl<'e> CourseSchedule<'e> {
 
 impl Scheduler for CourseSchedule<'_> {
     ghost use Rattle.std.specs.Prelude.{◌-◌, drop};
-    ghost use Rattle.machine_commands.specs.Schedule.{Comes, listing};
+    ghost use Rattle.machine_commands.specs.Schedule.{ComesBy, listing};
 
     ghost brings = { λ s c w extent events.
-        Comes (listing (ends_at_halt s.course)) c extent (drop s.index (events_in s.course)) w events };
+        ComesBy listing (ends_at_halt s.course) c extent (drop s.index (events_in s.course)) w events };
 
     ghost ends = { λ s. ends_at_halt s.course };
 
@@ -114,10 +114,10 @@ impl Scheduler for CourseSchedule<'_> {
 
 impl Scheduler for Operator<'_> {
     ghost use Rattle.peripherals.specs.Operator.{plan_of};
-    ghost use Rattle.machine_commands.specs.Schedule.{Comes, operating};
+    ghost use Rattle.machine_commands.specs.Schedule.{ComesBy, operating};
     ghost use Rattle.machine_commands.specs.SessionParts.{events_left, place_of};
 
-    ghost brings = { λ o c w extent events. Comes operating c extent (place_of o) w events };
+    ghost brings = { λ o c w extent events. ComesBy operating true c extent (place_of o) w events };
 
     ghost ends = { λ o. true };
 
@@ -169,10 +169,10 @@ impl<'o, 'd, D: Allocator> Continuing<'o, 'd, D> {
 impl<D: Allocator> Scheduler for Continuing<'_, '_, D> {
     ghost use Rattle.peripherals.specs.Operator.{plan_of};
     ghost use Rattle.machine_commands.specs.Continued.{continuing, pressing};
-    ghost use Rattle.machine_commands.specs.Schedule.{Comes};
+    ghost use Rattle.machine_commands.specs.Schedule.{ComesBy};
     ghost use Rattle.machine_commands.specs.SessionParts.{events_left, place_of};
 
-    ghost brings = { λ s c w extent events. Comes (continuing (meaning s.declaration.now)) c extent
+    ghost brings = { λ s c w extent events. ComesBy (continuing (meaning s.declaration.now)) false c extent
         (pressing (place_of s.operator) s.left) w events };
 
     ghost ends = { λ s. false };

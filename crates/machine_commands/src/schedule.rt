@@ -71,9 +71,9 @@ pub(crate) struct CourseSchedule<'e> {
 impl<'e> CourseSchedule<'e> {
     /// All events of a course.
     pub(crate) fn new(course: Course<'e>) -> CourseSchedule<'e>
-        ensures course { result.course ≡ course }
+        ensures course { result.course ≡ course.entry }
         ensures first { result.index ≡ 0 }
-        ensures few { length (events_in course) < 18446744073709551616 }
+        ensures few { length (events_in course.entry) < 18446744073709551616 }
     {
         let _few = course.len();
         CourseSchedule { course, index: 0 }
@@ -154,7 +154,7 @@ impl<'o, 'd, D: Allocator> Continuing<'o, 'd, D> {
         declaration: &'d Declaration<D>,
         left: u32,
     ) -> Continuing<'o, 'd, D>
-        ensures operator { result.operator ≡ operator }
+        ensures operator { result.operator ≡ operator.entry }
         ensures declaration { result.declaration.now ≡ declaration.now }
         ensures left { result.left ≡ left }
     {

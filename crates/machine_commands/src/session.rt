@@ -174,7 +174,7 @@ pub fn run_session<
     // What is written, typed and punched is that of the run of the events that come, up to the first step that stops
     // it, behind the lines of the last instructions where these are requested.
     ensures run { IfOk result (λ status.
-        WritesAll (IsSessionToStop options stops.now (shown_by trace) form.entry (R.remaining tape.old)
+        WritesAll (IsSessionToStop options stops.now (shown_by trace.entry) form.entry (R.remaining tape.old)
         (F.remaining reader.old) (K.remaining keys.old) status)
         (taken (W.taken out.old.report) (T.taken out.old.teletype) (P.taken out.old.punch))
         (taken (W.taken out.new.report) (T.taken out.new.teletype) (P.taken out.new.punch))) }

@@ -57,13 +57,13 @@ pub fn run_with_stops<A: Allocator + Copy, N: Statements, W: ByteSink>(
     requires { W.mark out.old ≡ false }
     // What is written is that of the run of the course, up to the first step that stops it.
     ensures run { IfOk result (λ status. Writes
-        (λ text. IsRunWithStops options.now stops.now (shown_by trace) (ends_at_halt course.now)
+        (λ text. IsRunWithStops options.now stops.now (shown_by trace.entry) (ends_at_halt course.now)
         (events_in course.now) image.now text status)
         (W.taken out.old) (W.taken out.new)) }
     ensures faults { IfErr result IsRunFault }
     // Without a trace, a prefix of that went out if a write failed,
     ensures front { W.mark out.new ≡ true → options.now.trace ≡ false → FrontOf
-        (λ text. (status : Status) × IsRunWithStops options.now stops.now (shown_by trace)
+        (λ text. (status : Status) × IsRunWithStops options.now stops.now (shown_by trace.entry)
         (ends_at_halt course.now) (events_in course.now) image.now text status)
         (W.taken out.old) (W.taken out.new) }
     // and any other fault leaves the output as it was.

@@ -71,7 +71,7 @@ pub fn teletype<
     // What is written, typed and punched is that of the run of the events that come, up to the first step that stops
     // it, behind the lines of the last instructions where these are requested.
     ensures run { IfOk result (λ status.
-        WritesAll (IsTypedToStop typist.old.options stops.now (shown_by trace) form.entry (K.left typist.new.keys) (R.remaining tape.old)
+        WritesAll (IsTypedToStop typist.old.options stops.now (shown_by trace.entry) form.entry (K.left typist.new.keys) (R.remaining tape.old)
         (F.remaining typist.old.reader) (K.remaining typist.old.keys) status)
         (taken (W.taken out.old.report) (T.taken out.old.teletype) (P.taken out.old.punch))
         (taken (W.taken out.new.report) (T.taken out.new.teletype) (P.taken out.new.punch))) }

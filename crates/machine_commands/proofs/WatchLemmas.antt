@@ -191,6 +191,10 @@ presses_within (e ∷ es) = let rest = presses_within es in let one = press_with
     press_within (Switches word) = omega arith
     press_within Continue = omega arith
 
+-- declared runs of one conduct have one declaration
+pub declared_one : (d e : Declaration) → Declared d ≡ Declared e → d ≡ e
+declared_one d e is = cc
+
 -- what is told of a watched run
 pub watch_told : {N A : Type 0} (comes : Conduct → WorldState → Extent → List Event → Type 0) (h : Bool) (most : ℕ) (continues : Option ℕ) (stops : Stops) (shown : Shown) (explained : Bool) (named : ℕ → Bool) (image : List (Option ℕ)) (d : Declaration) (w x : WorldState) (first_calls ks : Calls) (ran : DrivenRun) (status : Status) (line before details : List ℕ) (first now : Progress) (r : Recorder N A) (old new told_old told_new : Option (List ℕ)) →
     w ≡ fresh image d.start → most < 18446744073709551616 → (driven : Driven comes h most (Declared d) stops (λ es. (first_calls ≡ [] → LedLegally d es w x ks) × Counted es first now) (Breaks d x ks) (λ ls. Recorded r ls old new) w ran x told_old told_new) →

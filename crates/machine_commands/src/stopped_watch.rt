@@ -1,6 +1,6 @@
 //! What is told of a watched run up to where it is stopped, with its last instructions.
 
-ghost use Rattle.std.specs.Prelude.{◌≡◌, ◌+◌, ◌*◌, ◌<◌, false, true, IfOk, IfErr};
+ghost use Rattle.std.specs.Prelude.{◌≡◌, ◌+◌, ◌*◌, ◌<◌, [], false, true, IfOk, IfErr};
 ghost use Rattle.wordset.specs.Lanes.{words};
 ghost use Rattle.declaration.specs.DeclarationInCode.{meaning};
 ghost use Rattle.peripherals.specs.World.{profile_of, view};
@@ -56,7 +56,11 @@ pub(crate) fn run_quietly<A: Allocator + Copy, D: Allocator>(
     alloc: A,
     machine: &mut WatchedMachine<'_, A, D>,
     course: Course<'_>,
-) -> Result<(), NoMemory> {
+) -> Result<(), NoMemory>
+    requires profile { profile_of machine.old.watcher.world
+        ≡ (meaning machine.old.declaration.now).profile }
+    requires unprinted { (machine_of machine.old.watcher).devices.printer.output ≡ [] }
+{
     let mut recorder = Recorder::new(alloc, false, &SHORT_TRACE);
     let mut schedule = CourseSchedule::new(course);
     let stops = no_stops();

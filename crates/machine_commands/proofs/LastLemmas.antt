@@ -103,6 +103,13 @@ lines_both (c ∷ a) b = let rest = lines_both a b in by_end (c == 10) refl rest
     by_end true so rest = rw so (ap suc rest ∙ sym (suc_add (lines_in a) (lines_in b)))
     by_end false so rest = rw so rest
 
+step_of_line : (k d : ℕ) (ds : List ℕ) → (d == 10) ≡ true → without_lines (suc k) (d ∷ ds) ≡ without_lines k ds
+step_of_line k d ds ends = rw ends refl
+
+stays_in_line : (k d : ℕ) (ds : List ℕ) → 1 ≤ k → (d == 10) ≡ false → without_lines k (d ∷ ds) ≡ without_lines k ds
+stays_in_line zero d ds more goes = absurd (omega (arith, more))
+stays_in_line (suc k) d ds more goes = rw goes refl
+
 skip_whole : (a b : List ℕ) (n : ℕ) → leaves_open a ≡ false → without_lines (lines_in a + n) (a ++ b) ≡ without_lines n b
 skip_whole [] b n is = ap (λ (k : ℕ). without_lines k b) (zero-add n)
 skip_whole (c ∷ a) b n is = by_end (c == 10) refl
@@ -121,13 +128,6 @@ skip_whole (c ∷ a) b n is = by_end (c == 10) refl
         let same : lines_in (c ∷ a) ≡ lines_in a = rw so refl in
         let more : 1 ≤ lines_in a + n = omega (arith, same, some) in
         rw same (stays_in_line (lines_in a + n) c (a ++ b) more so ∙ rest)
-
-    step_of_line : (k d : ℕ) (ds : List ℕ) → (d == 10) ≡ true → without_lines (suc k) (d ∷ ds) ≡ without_lines k ds
-    step_of_line k d ds ends = rw ends refl
-
-    stays_in_line : (k d : ℕ) (ds : List ℕ) → 1 ≤ k → (d == 10) ≡ false → without_lines k (d ∷ ds) ≡ without_lines k ds
-    stays_in_line zero d ds more goes = absurd (omega (arith, more))
-    stays_in_line (suc k) d ds more goes = rw goes refl
 
 -- the last lines of all are those of what is kept
 last_same : (most : ℕ) (dropped kept : List ℕ) → leaves_open dropped ≡ false → most ≤ lines_in kept → last_lines most kept ≡ last_lines most (dropped ++ kept)

@@ -29,7 +29,7 @@ help:
 # rt try, the searches need more stack than the usual 8 MB.
 try:
 	@echo "Building a program that runs a tape and verifies it, without any proof. This takes up to a minute."
-	@cd crates/first_look && ulimit -s $$(ulimit -H -s) && rt try < stdin
+	@cd crates/first_look && ulimit -s $$(ulimit -H -s) && rt try -- verify < stdin
 	@echo "The code that gave these two answers was not proved here: make run proves and builds the whole program."
 
 # Proves the program and all crates below it, several of them at a time, builds the program, and runs it on the stored tape.

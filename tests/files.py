@@ -158,6 +158,19 @@ def show_names(shown):
     shown.expect('leftovers', (shown.read(longest), len(os.listdir(shown.path('named')))), (shown.tape, 1001))
 
 
+def show_shared_memory(shown):
+    """An output below /dev is compared with the inputs like any other."""
+    if not os.path.isdir('/dev/shm'):
+        return
+    with tempfile.TemporaryDirectory(dir='/dev/shm') as folder:
+        for name in ('same', 'other'):
+            shown.write(os.path.join(folder, name), HALT)
+        same, again = os.path.join(folder, 'same'), os.path.join(folder, '.', 'same')
+        for words in (('assemble', '-o', again, same), ('assemble', '-o', again, os.path.join(folder, 'other'), same)):
+            shown.run(*words)
+            shown.expect('shared memory', shown.read(same), HALT.encode())
+
+
 def show_full_disk(shown):
     """On a full disk the old contents stay, whether the file would be replaced or written in place."""
     os.mkdir(shown.path('small'))
@@ -266,6 +279,7 @@ def main():
         show_unreadable(shown)
         show_access_list(shown)
         show_names(shown)
+        show_shared_memory(shown)
         show_full_disk(shown)
         show_mount_point(shown)
         show_closed_streams(shown)

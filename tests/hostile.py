@@ -34,6 +34,9 @@ KINDS = {
     'declare': 'Undeclarable [A-Z][A-Za-z]*( [0-7]+)?|Mismatch',
 }
 FAULT = re.compile('pdp8: (?:%s)\n' % '|'.join(f'{kind}: (?:{names})' for kind, names in KINDS.items()))
+# What may follow it: that a file looks like one of another kind.
+LOOKS = re.compile('[a-z]+ looks like (?:text|a (?:tape|source|declaration|certificate|list of events)), '
+                   'not a (?:tape|source|declaration|certificate|list of events)\n')
 SUMMARY = re.compile(r'(HALT|UNSUPPORTED|BOUND) [0-7]{4} AC=[0-7]{4} L=[01] PC=[0-7]{4} STEPS=\d+\n(PRINTED( [0-7]{3})+\n)?(PUNCHED( [0-7]{3})+\n)?')
 DUMP = re.compile(r'([0-7]{4} [0-7]{4} [A-Z0-9 ?]+\n)*')
 WATCH = re.compile(r'clean\n|broken: event \d+ rule [1-8]\n')
@@ -148,7 +151,7 @@ def fails(done, said):
     if done.stderr:
         told = done.stderr.decode('latin-1')
         first = told[:told.find('\n') + 1] if WHY.search(told) else told
-        if done.stdout or done.returncode != 1 or not FAULT.fullmatch(first):
+        if done.stdout or done.returncode != 1 or not FAULT.fullmatch(LOOKS.sub('', first, count=1)):
             return f'it said {done.stderr!r} with {done.returncode}'
     elif not said.fullmatch(done.stdout.decode('latin-1')):
         return f'it wrote {done.stdout[:200]!r}'

@@ -1,5 +1,6 @@
 //! A first look, which `make try` builds without any proof. It runs the tape on standard input and says, as `pdp8 verify` does,
-//! whether the program keeps to a declaration; then it does the same with a copy that has one wrong word.
+//! whether the program keeps to a declaration; then it does the same with a copy that has one wrong word. Without an
+//! argument it only runs them, since as Rattle's own compiler builds it the searches need more stack than there is.
 #![tactic(auto)]
 
 use analyser::guess;
@@ -8,6 +9,7 @@ use declaration::Declaration;
 use peripherals::{Event, Seen, Start, World};
 use refuter::refute_within;
 use std::alloc::Allocator;
+use std::env;
 use streams::standard::StdReader;
 use turns::Turns;
 use word12::Word;
@@ -69,6 +71,7 @@ fn show_yes<R: Print, D: Allocator>(rt: &R, declaration: &Declaration<D>) -> any
     println!(rt;
         "yes: {bodies} body cells, {variables} variable cells, {entries} entries, {halts} halts"
     )?;
+    println!(rt; "That is: no run executes, changes or halts at anything else.")?;
     Ok(())
 }
 
@@ -90,27 +93,39 @@ fn show_answer<R: Print + AllocGlobal, D: Allocator>(
         Some(run) => {
             let (event, rule) = (run.event, run.rule.number());
             println!(rt; "no: event {event} rule {rule}")?;
+            println!(rt;
+                "That is: there is a run whose event {event}, counted from 0, breaks rule {rule}."
+            )?;
         }
         None => println!(rt; "not known")?,
     }
     Ok(())
 }
 
+/// Shows what the program prints and, if that is requested, whether it keeps to the declaration.
+fn show<R: Print + AllocGlobal, D: Allocator>(
+    rt: &R,
+    image: &Image,
+    declaration: &Declaration<D>,
+    verifies: bool,
+) -> anyhow::Result<()> {
+    show_run(rt, image, declaration)?;
+    if verifies {
+        show_answer(rt, image, declaration)?;
+    }
+    Ok(())
+}
+
 fn main(rt: HostRuntime) -> anyhow::Result<()> {
+    let words = env::args(&rt)?.collect::<Vec<String>>(rt.alloc())?;
+    let verifies = words.get(1).is_some();
     let mut tape = StdReader::new(rt.reader());
     let mut image = read_from(&mut tape)?;
     let declaration = Declaration::parse(rt.alloc(), DECLARATION.as_bytes())?;
-    println!(rt; "A program on a paper tape runs on a PDP-8/I, and prints:")?;
-    show_run(&rt, &image, &declaration)?;
-    println!(rt; "\nIts declaration says what it may do:\n{DECLARATION}")?;
-    show_answer(&rt, &image, &declaration)?;
-    println!(rt; "That is: no run executes, changes or halts at anything else.")?;
+    println!(rt; "A declaration says what a program on a paper tape may do:\n{DECLARATION}")?;
+    println!(rt; "The program runs on a PDP-8/I, and prints:")?;
+    show(&rt, &image, &declaration, verifies)?;
     println!(rt; "\nWith one mistake, a store into 0223 in place of 0224, it prints:")?;
     image.set(Word::from_index(CHANGED), Word::from_index(MISTAKE));
-    show_run(&rt, &image, &declaration)?;
-    show_answer(&rt, &image, &declaration)?;
-    println!(rt;
-        "That is: there is a run whose event 5, counted from 0, breaks rule 2 and changes a word that it may not change."
-    )?;
-    Ok(())
+    show(&rt, &image, &declaration, verifies)
 }

@@ -46,7 +46,7 @@ impl<R: Files> SeenFiles<'_, R> {
     /// Looks at an output, if it is a file, and returns whether it was seen before.
     fn sees_output_again(&mut self, output: Option<&str>) -> Result<bool, AllocError> {
         match output {
-            Some(name) if name != "-" && !name.starts_with("/dev/") => self.sees_again(name),
+            Some(name) if name != "-" && name != "/dev/stdout" => self.sees_again(name),
             _ => Ok(false),
         }
     }

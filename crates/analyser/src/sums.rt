@@ -25,6 +25,9 @@ enum Try {
     ByStuckRoutine,
     /// All are distinguished by the link besides.
     ByLink,
+    /// Or by whether the pointer is where it may be through which the word refers where the try by calls was stuck, and where a skip
+    /// may test it by the link.
+    ByStuckPointer,
     /// Or by the words of the cell with this number among those by which they may be, and where a skip may test it by the link.
     ByCell(usize),
     /// Or by the link, and by the call in the routines that are called where the tries by calls were stuck.
@@ -34,7 +37,7 @@ enum Try {
 }
 
 /// The tries, one after another until a certificate is found. One for which a program gives no reason is left out.
-const TRIES: [Try; 21] = [
+const TRIES: [Try; 22] = [
     Try::OneFact,
     Try::ByReaders,
     Try::ByStuckRoutine,
@@ -42,6 +45,7 @@ const TRIES: [Try; 21] = [
     Try::ByStuckRoutine,
     Try::ByStuckRoutine,
     Try::ByLink,
+    Try::ByStuckPointer,
     Try::ByCell(0),
     Try::ByCell(1),
     Try::ByCell(2),
@@ -123,6 +127,10 @@ impl Progress {
                 self.split.by_calls(&WordSet::one(entry))
             }
             Try::ByLink => Some(self.apart(program).by_links(&WordSet::all())),
+            Try::ByStuckPointer => {
+                let apart = self.apart(program).by_links(program.tested_links());
+                apart.by_pointer_at(program, self.stuck)
+            }
             Try::ByCell(number) => {
                 let cell = cell_with_number(&self.cells, number)?;
                 let apart = self.apart(program).by_links(program.tested_links());

@@ -1,5 +1,5 @@
-//! Which sums of cells that changed together may be told: their difference, and what stays the same where the one goes by
-//! several words as the other goes by one.
+//! Which sums of names that changed together may be told: the difference and the sum of two cells, and what stays the same where a
+//! cell or the accumulator goes by several words as a cell goes by one.
 
 use crate::fault::SearchFault;
 use crate::invariant::Invariant;
@@ -11,23 +11,22 @@ use std::alloc::Allocator;
 use word12::Word;
 use wordset::WordSet;
 
-/// Of which words a cell went to which.
+/// Of which words a name went to which.
 #[derive(Clone, Copy)]
 struct Change {
-    cell: Word,
+    name: Location,
     before: WordSet,
     after: WordSet,
 }
 
-/// How a cell changed.
-fn change_of<F: KnownFact>(cell: Word, known: &F, before: &Fact) -> Change {
-    let name = Location::Cell(cell);
+/// How a name changed.
+fn change_of<F: KnownFact>(name: Location, known: &F, before: &Fact) -> Change {
     let mut old = WordSet::all();
     before.put_set_of(&name, &mut old);
     let mut new = WordSet::all();
     known.put_set_of(&name, &mut new);
     Change {
-        cell,
+        name,
         before: old,
         after: new,
     }
@@ -64,16 +63,16 @@ fn is_factor(word: Word) -> bool {
     size > 1 && size <= SETTINGS.most_factor
 }
 
-/// The sum of a cell and so many times another.
-fn with_factor(cell: Word, factor: Word, other: Word) -> Option<Sum> {
+/// The sum of a name and so many times another.
+fn with_factor(name: Location, factor: Word, other: Location) -> Option<Sum> {
     let mut sum = Sum::zero();
     sum.push(Summand {
         coefficient: Word::from_index(1),
-        term: Term::Holding(Location::Cell(cell)),
+        term: Term::Holding(name),
     });
     sum.push(Summand {
         coefficient: factor,
-        term: Term::Holding(Location::Cell(other)),
+        term: Term::Holding(other),
     });
     match spelled(&sum) {
         None => None,
@@ -81,7 +80,7 @@ fn with_factor(cell: Word, factor: Word, other: Word) -> Option<Sum> {
     }
 }
 
-/// The factor of the second cell in what stays the same where the first one goes by a number as the second one goes by 1 or
+/// The factor of the second name in what stays the same where the first one goes by a number as the second one goes by 1 or
 /// -1.
 fn factor(fast: Option<Word>, slow: Option<Word>) -> Option<Word> {
     let (Some(fast), Some(slow)) = (fast, slow) else {
@@ -108,16 +107,16 @@ fn add_pair<A: Allocator + Copy, F: KnownFact>(
     sides: &mut Sides<'_>,
 ) -> Result<(), SearchFault> {
     let minus = Word::from_index(0o7777);
-    if let Some(sum) = with_factor(left.cell, minus, right.cell) {
+    if let Some(sum) = with_factor(left.name, minus, right.name) {
         kept.add_sum(&sum, known, merge, sides)?;
     }
-    if let Some(sum) = with_factor(left.cell, Word::from_index(1), right.cell) {
+    if let Some(sum) = with_factor(left.name, Word::from_index(1), right.name) {
         kept.add_sum(&sum, known, merge, sides)?;
     }
     Ok(())
 }
 
-/// Adds what is said of one cell and a multiple of another, where the one went by several words as the other went by one.
+/// Adds what is said of one name and a multiple of another, where the one went by several words as the other went by one.
 fn add_factors<A: Allocator + Copy, F: KnownFact>(
     kept: &mut Invariant<A>,
     fast: &Change,
@@ -128,7 +127,7 @@ fn add_factors<A: Allocator + Copy, F: KnownFact>(
 ) -> Result<(), SearchFault> {
     for step in [fast.step(), fast.low_step(), fast.high_step()] {
         if let Some(factor) = factor(step, slow.step()) {
-            if let Some(sum) = with_factor(fast.cell, factor, slow.cell) {
+            if let Some(sum) = with_factor(fast.name, factor, slow.name) {
                 kept.add_sum(&sum, known, merge, sides)?;
             }
         }
@@ -145,10 +144,10 @@ fn add_pairs_of<A: Allocator + Copy, F: KnownFact>(
     merge: &Merge<'_, A>,
     sides: &mut Sides<'_>,
 ) -> Result<(), SearchFault> {
-    let left = change_of(cell, known, sides.before);
+    let left = change_of(Location::Cell(cell), known, sides.before);
     for other in others.iter() {
         if other > cell {
-            let right = change_of(other, known, sides.before);
+            let right = change_of(Location::Cell(other), known, sides.before);
             add_pair(kept, &left, &right, known, merge, sides)?;
             add_factors(kept, &left, &right, known, merge, sides)?;
             add_factors(kept, &right, &left, known, merge, sides)?;
@@ -157,7 +156,7 @@ fn add_pairs_of<A: Allocator + Copy, F: KnownFact>(
     Ok(())
 }
 
-/// Adds what is said of pairs of cells that changed.
+/// Adds what is said of pairs of cells that changed, and of the accumulator and one of them.
 pub(crate) fn add_pairs<A: Allocator + Copy, F: KnownFact>(
     kept: &mut Invariant<A>,
     changed: &WordSet,
@@ -170,8 +169,11 @@ pub(crate) fn add_pairs<A: Allocator + Copy, F: KnownFact>(
     } else {
         changed.meet(&merge.pointers.union(&merge.limits.counted))
     };
+    let accumulator = change_of(Location::Accumulator, known, sides.before);
     for cell in chosen.iter() {
         add_pairs_of(kept, cell, &chosen, known, merge, sides)?;
+        let slow = change_of(Location::Cell(cell), known, sides.before);
+        add_factors(kept, &accumulator, &slow, known, merge, sides)?;
     }
     Ok(())
 }

@@ -199,10 +199,11 @@ impl<A: Allocator + Copy> SumSearch<A> {
                 kept.track(cell, &WordSet::one(word))?;
             }
         }
-        kept.case.value = match self.split.cell {
-            None => None,
-            Some(cell) => program.base.image.get(cell),
-        };
+        if let Some(cell) = self.split.cell {
+            if let Some(word) = program.base.image.get(cell) {
+                kept.case.value = self.split.value_of_set(&WordSet::one(word));
+            }
+        }
         self.waiting.insert(at);
         if self.gathers() {
             self.gathered.facts.keep(self.alloc, at, kept)

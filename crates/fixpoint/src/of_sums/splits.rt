@@ -6,14 +6,15 @@ use crate::of_sums::search::SumSearch;
 use crate::settings::SETTINGS;
 use domain::{Location, ReturnOffsets};
 use facts::KnownFact;
+use instruct::{refers_indirectly, refers_to_memory, target};
 use std::alloc::Allocator;
 use word12::{Link, Word};
 use wordset::{Links, WordSet};
 
 /// By what the facts at an address are distinguished: those of the routines of some entries by the call and by how far the return
 /// word was incremented, those of some more by the latter alone, those at some addresses and at the returns of some entries by the
-/// link, and all of them by the word of a cell and by that of the accumulator, where there is only one. And some cells of which
-/// all facts speak.
+/// link, and all of them by the word of a cell and by that of the accumulator, where there is only one. By a pointer they are
+/// distinguished by whether it leads to cells that it may lead to. And some cells of which all facts speak.
 #[derive(Clone, Copy)]
 pub struct Split {
     called: WordSet,
@@ -21,6 +22,7 @@ pub struct Split {
     links: WordSet,
     by_accumulator: bool,
     pub(crate) cell: Option<Word>,
+    pub(crate) permitted: Option<WordSet>,
     pub(crate) told: WordSet,
 }
 
@@ -61,6 +63,7 @@ impl Split {
             links: WordSet::empty(),
             by_accumulator: false,
             cell: None,
+            permitted: None,
             told: WordSet::empty(),
         }
     }
@@ -96,6 +99,28 @@ impl Split {
         let mut split = self.of_cells(&WordSet::one(cell));
         split.cell = Some(cell);
         split
+    }
+
+    /// The same, and they are distinguished by whether the pointer through which the word at an address refers holds one of the words
+    /// that it may hold there, if not all of its words are permitted.
+    pub fn by_pointer_at<D: Allocator>(
+        &self,
+        program: &SumProgram<'_, D>,
+        at: Word,
+    ) -> Option<Split> {
+        let word = program.base.fixed_word(at)?;
+        let pointer = target(word, at);
+        let is_pointer = refers_to_memory(word) && refers_indirectly(word);
+        if !is_pointer || !program.base.declaration.is_variable(pointer) {
+            return None;
+        }
+        let permitted = program.permitted(&program.base.owner(at), at, word);
+        if permitted.is_all() {
+            return None;
+        }
+        let mut split = self.by_cell(pointer);
+        split.permitted = Some(permitted);
+        Some(split)
     }
 
     /// The same, and all facts speak of some cells.
@@ -135,7 +160,31 @@ impl Split {
         let cell = self.cell?;
         let mut set = WordSet::all();
         known.put_set_of(&Location::Cell(cell), &mut set);
-        set.only()
+        self.value_of_set(&set)
+    }
+
+    /// What stands for the words of the cell in a case: their only one, or 1 where all of them are permitted to a pointer, and 0
+    /// where none is.
+    pub(crate) fn value_of_set(&self, set: &WordSet) -> Option<Word> {
+        let Some(permitted) = &self.permitted else {
+            return set.only();
+        };
+        if set.is_subset(permitted) {
+            return Some(Word::from_index(1));
+        }
+        if set.meet(permitted).is_empty() {
+            return Some(Word::ZERO);
+        }
+        None
+    }
+
+    /// Whether words of the cell are more than one case, which facts distinguish.
+    pub(crate) fn divides(&self, set: &WordSet) -> bool {
+        let count = set.count();
+        match self.permitted {
+            None => count > 1 && count <= SETTINGS.most_values,
+            Some(_) => self.value_of_set(set).is_none(),
+        }
     }
 
     /// The case of a fact at an address, in the body of a routine, if it is not main's; or at the return of an entry.

@@ -248,8 +248,8 @@ impl<A: Allocator + Copy> SumSearch<A> {
         Ok(())
     }
 
-    /// Lets a part be known where it goes, each word for itself of a cell by which facts are
-    /// distinguished.
+    /// Lets a part be known where it goes, each word for itself of a cell by which facts are distinguished; of a pointer those that
+    /// are permitted, and the others.
     fn reach_each<D: Allocator>(
         &mut self,
         program: &SumProgram<'_, D>,
@@ -260,8 +260,8 @@ impl<A: Allocator + Copy> SumSearch<A> {
             let name = Location::Cell(cell);
             let mut set = WordSet::all();
             rooms.part.put_set_of(&name, &mut set);
-            if has_few_words(&set) {
-                return self.reach_values(program, goal, &name, &set, rooms);
+            if self.split.divides(&set) {
+                return self.reach_divided(program, goal, &name, &set, rooms);
             }
         }
         self.reach(
@@ -271,6 +271,22 @@ impl<A: Allocator + Copy> SumSearch<A> {
             &mut rooms.before,
             &mut rooms.after,
         )
+    }
+
+    /// Lets a part be known where it goes, divided by the words of a name.
+    fn reach_divided<D: Allocator>(
+        &mut self,
+        program: &SumProgram<'_, D>,
+        goal: &MergeTarget,
+        name: &Location,
+        set: &WordSet,
+        rooms: &mut PartWorkspace<A>,
+    ) -> Result<(), SearchFault> {
+        let Some(permitted) = self.split.permitted else {
+            return self.reach_values(program, goal, name, set, rooms);
+        };
+        self.reach_some(program, goal, name, &set.meet(&permitted), rooms)?;
+        self.reach_some(program, goal, name, &set.minus(&permitted), rooms)
     }
 
     /// Lets a part be known where it goes, each word of a name for itself.
@@ -283,17 +299,30 @@ impl<A: Allocator + Copy> SumSearch<A> {
         rooms: &mut PartWorkspace<A>,
     ) -> Result<(), SearchFault> {
         for value in values.iter() {
-            if rooms.has_value(program.base.image, name, value) {
-                self.reach(
-                    program,
-                    goal,
-                    &*rooms.met,
-                    &mut rooms.before,
-                    &mut rooms.after,
-                )?;
-            }
+            self.reach_some(program, goal, name, &WordSet::one(value), rooms)?;
         }
         Ok(())
+    }
+
+    /// Lets a part be known where it goes, as far as a name holds some words.
+    fn reach_some<D: Allocator>(
+        &mut self,
+        program: &SumProgram<'_, D>,
+        goal: &MergeTarget,
+        name: &Location,
+        words: &WordSet,
+        rooms: &mut PartWorkspace<A>,
+    ) -> Result<(), SearchFault> {
+        if !rooms.has_some(program.base.image, name, words) {
+            return Ok(());
+        }
+        self.reach(
+            program,
+            goal,
+            &*rooms.met,
+            &mut rooms.before,
+            &mut rooms.after,
+        )
     }
 
     /// A run may come to where a part goes, and know this.
@@ -357,12 +386,6 @@ fn has_words_to_try<F: KnownFact>(fact: &F, cell: Word) -> bool {
     let mut set = WordSet::all();
     fact.put_set_of(&Location::Cell(cell), &mut set);
     set.count() <= SETTINGS.most_chained_words
-}
-
-/// Whether a set has more than one word, and few.
-fn has_few_words(set: &WordSet) -> bool {
-    let count = set.count();
-    count > 1 && count <= SETTINGS.most_values
 }
 
 /// Whether a run may go on by a word where the fact in the lent room holds; where what it refers to is only permitted in part,

@@ -113,31 +113,31 @@ impl<A: Allocator + Copy> SumWorkspace<A> {
 }
 
 impl<A: Allocator> PartWorkspace<A> {
-    /// Whether something is left of the part when a name holds one word, which then stands in the room for that, narrowed.
-    pub(crate) fn has_value(&mut self, image: &Image, name: &Location, value: Word) -> bool {
+    /// Whether something is left of the part when a name holds one of some words; it then stands in the room for that, narrowed.
+    pub(crate) fn has_some(&mut self, image: &Image, name: &Location, words: &WordSet) -> bool {
         let PartWorkspace {
             part,
             chosen,
             met,
             ..
         } = self;
-        choose(image, part.fact(), name, value, chosen, met);
+        choose(image, part.fact(), name, words, chosen, met);
         !met.is_void()
     }
 }
 
-/// Narrows what is left of a part when a name holds one word.
+/// Narrows what is left of a part when a name holds one of some words.
 fn choose(
     image: &Image,
     part: &PartFact,
     name: &Location,
-    value: Word,
+    words: &WordSet,
     chosen: &mut ChosenFact,
     met: &mut MetFact,
 ) {
     part.is_within_room();
     chosen.copy_from(part);
-    chosen.set_name(name, &WordSet::one(value));
+    chosen.set_name(name, words);
     chosen.is_within_room();
     met.narrow(image, chosen);
 }

@@ -290,4 +290,7 @@ def counts(declared):
     said = (f"yes: {cells} body cells, {len(declared.variables)} variable cells, {len(declared.routines)} entries, "
             f"{len(declared.stops | declared.pauses)} halts")
     said += f", {len(declared.reads)} read cells" if declared.reads is not None else ""
-    return said + (f", {len(declared.asserted)} assertions" if declared.asserted else "")
+    said += f", {len(declared.asserted)} assertions" if declared.asserted else ""
+    skips = sum(max(declared.offsets(entry), default=0) > 7 for entry in declared.routines)
+    widened = ((len(declared.abandons), "abandon place"), (len(declared.moves), "moved return"), (skips, "skip"))
+    return said + "".join(f", {count} {name}{'s' * (count > 1)}" for count, name in widened if count)

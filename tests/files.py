@@ -2,14 +2,17 @@
 """Shows as root, in a folder of its own, what docs/FILES.md says of files where a case of tests/cases/ cannot: other users, a full disk, a
 process that exchanges files for links, signals, and two commands that write the same file.
 
-usage: tests/files.py PDP8 [PAIRS]    PDP8 is the built program; PAIRS (30) is how many pairs of commands write the same file. Without root,
-                                      it only says that it did nothing.
+usage: tests/files.py PDP8 [COUNT]    PDP8 is the built program; COUNT (10) is how many pairs of commands write the same file, how many times
+                                      another process exchanges files, and how many times each signal is sent. Without root, it only says
+                                      that it did nothing.
 """
 import os
 import random
+import re
 import resource
 import shutil
 import signal
+import struct
 import subprocess
 import sys
 import tempfile
@@ -75,14 +78,14 @@ def exchange(folder, target, ended):
                     pass
 
 
-def show_links(shown):
+def show_links(shown, count):
     """A file of root's keeps its owner, its mode and its contents, whatever another process does with the temporary files."""
     os.mkdir(shown.path('racing'))
     shown.write('secret', 'secret', 0o600)
     ended = threading.Event()
     racer = threading.Thread(target=exchange, args=(shown.path('racing'), shown.path('secret'), ended))
     racer.start()
-    for _ in range(100):
+    for _ in range(count):
         for owner in (0, NOBODY):
             if os.path.lexists(shown.path('racing/out')):
                 os.remove(shown.path('racing/out'))
@@ -118,6 +121,43 @@ def show_unreadable(shown):
     shown.expect('unreadable', (status, os.path.exists(shown.path('private/found.declaration'))), (2, False))
 
 
+def access_list(*entries):
+    """An access control list as Linux keeps it, of entries (kind, rights, number)."""
+    return struct.pack('<I', 2) + b''.join(struct.pack('<HHI', *entry) for entry in entries)
+
+
+def show_access_list(shown):
+    """The access control list of a file that is replaced is lost, and its rights are those that stat says."""
+    none = 0xFFFFFFFF
+    wanted = access_list((0x01, 6, none), (0x02, 6, NOBODY), (0x04, 0, none), (0x10, 6, none), (0x20, 0, none))
+    shown.write('listed', 'old')
+    try:
+        os.setxattr(shown.path('listed'), 'system.posix_acl_access', wanted)
+    except OSError:
+        print('files: no access control lists here')
+        return
+    shown.expect('access list', shown.identity('listed'), (0o660, 0, 0))
+    shown.run('assemble', '-o', 'listed', 'halt.pal')
+    shown.expect('access list', (shown.read('listed'), shown.identity('listed')), (shown.tape, (0o660, 0, 0)))
+    shown.expect('access list', os.listxattr(shown.path('listed')), [])
+
+
+def show_names(shown):
+    """A name that no file can have is refused before a file is made, and a thousand files that were left do not matter."""
+    os.mkdir(shown.path('named'))
+    for name in ('n' * 256, 'new/.', 'new/..', 'new/', '.', 'n' * 4090):
+        for words in (('-o', f'named/{name}'), (f'named/{name}',)):
+            said, status = shown.run('assemble', *words, 'halt.pal')
+            shown.expect(f'name {name[:9]}', (said.startswith('pdp8: device: WriteFault\n'), status), (True, 3))
+        shown.expect(f'name {name[:9]}', os.listdir(shown.path('named')), [])
+    longest = 'named/' + 'n' * 255
+    shown.expect('longest name', shown.run('assemble', '-o', longest, 'halt.pal'), ('', 0))
+    for number in range(1000):
+        shown.write(f'named/.pdp8-{number:016x}', 'left')
+    shown.expect('leftovers', shown.run('assemble', '-o', longest, 'halt.pal'), ('', 0))
+    shown.expect('leftovers', (shown.read(longest), len(os.listdir(shown.path('named')))), (shown.tape, 1001))
+
+
 def show_full_disk(shown):
     """On a full disk the old contents stay, whether the file would be replaced or written in place."""
     os.mkdir(shown.path('small'))
@@ -151,17 +191,22 @@ def show_mount_point(shown):
         subprocess.run(['umount', shown.path('mounted')], check=True)
 
 
-def show_signals(shown):
-    """A signal leaves the old contents or the new ones, whenever it comes."""
+def show_signals(shown, count):
+    """A signal leaves the old contents or the new ones, whenever it comes, and beside them at most a file of the name that the page says,
+    which nobody else can read."""
+    os.mkdir(shown.path('stopped'))
     chance = random.Random(1)
-    for number in (signal.SIGINT, signal.SIGTERM, signal.SIGHUP, signal.SIGKILL) * 5:
-        shown.write('out', 'old')
-        with shown.start('assemble', '-o', 'out', 'halt.pal') as process:
+    for number in (signal.SIGINT, signal.SIGTERM, signal.SIGHUP, signal.SIGKILL) * count:
+        shown.write('stopped/out', 'old', 0o600)
+        with shown.start('assemble', '-o', 'stopped/out', 'halt.pal') as process:
             time.sleep(chance.random() / 200)
             process.send_signal(number)
             process.communicate()
-        if shown.read('out') not in (b'old', shown.tape):
-            shown.wrong.append(f'signal {number}: {shown.read("out")!r}')
+        if shown.read('stopped/out') not in (b'old', shown.tape):
+            shown.wrong.append(f'signal {number}: {shown.read("stopped/out")!r}')
+    for name in set(os.listdir(shown.path('stopped'))) - {'out'}:
+        if not re.fullmatch('[.]pdp8-[0-9a-f]{16}', name) or shown.identity(f'stopped/{name}')[0] != 0o600:
+            shown.wrong.append(f'signals: {name} was left')
     shown.write('out', 'old')
     said, status = shown.run('assemble', '-o', 'out', 'halt.pal', preexec_fn=lambda: resource.setrlimit(resource.RLIMIT_FSIZE, (0, 0)))
     shown.expect('limit', (status, shown.read('out')), (-signal.SIGXFSZ, b'old'))
@@ -191,12 +236,12 @@ def show_long_tape(shown):
     shown.expect('long tape', said, ('', 0))
 
 
-def show_pairs(shown, pairs):
+def show_pairs(shown, count):
     """Of two commands that write the same file, one wins as a whole."""
     shown.write('other.pal', '*300\n' + 'HLT\n' * 2000 + '$\n')
     shown.run('assemble', '-o', 'other.bin', 'other.pal')
     tapes = (shown.tape, shown.read('other.bin'))
-    for _ in range(pairs):
+    for _ in range(count):
         both = [shown.start('assemble', '-o', 'out', name) for name in ('halt.pal', 'other.pal')]
         ends = [process.communicate()[0] + str(process.returncode) for process in both]
         if ends != ['0', '0'] or shown.read('out') not in tapes:
@@ -214,16 +259,19 @@ def main():
         os.chmod(folder, 0o755)
         program = shutil.copy(sys.argv[1], os.path.join(folder, 'pdp8'))
         os.chmod(program, 0o755)
+        count = int(sys.argv[2]) if len(sys.argv) > 2 else 10
         shown = Shown(program, folder)
-        show_links(shown)
+        show_links(shown, count)
         show_owners(shown)
         show_unreadable(shown)
+        show_access_list(shown)
+        show_names(shown)
         show_full_disk(shown)
         show_mount_point(shown)
         show_closed_streams(shown)
         show_long_tape(shown)
-        show_pairs(shown, int(sys.argv[2]) if len(sys.argv) > 2 else 30)
-        show_signals(shown)
+        show_pairs(shown, count)
+        show_signals(shown, count)
     print('\n'.join([*shown.wrong, f'files: {len(shown.wrong)} wrong']))
     sys.exit(1 if shown.wrong else 0)
 

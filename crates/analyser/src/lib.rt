@@ -350,6 +350,7 @@ pub fn guess_or_draft_within<A: Allocator + Copy, D: Allocator>(
     let mut draft = None;
     match or_by_sums(alloc, image, declaration, found, &mut draft, turns) {
         Ok(certificate) => Ok(Attempt::Found(certificate)),
+        Err(GuessFault::NoMemory) => Err(GuessFault::NoMemory),
         Err(fault) => match draft {
             Some(found) => drafted_by_sums(image, declaration, found),
             None => drafted_by(&mut search, &program, version, &fault),
@@ -481,6 +482,7 @@ pub fn guess_version_or_draft<A: Allocator + Copy, D: Allocator>(
     let mut draft = None;
     match found_by_sums(alloc, image, declaration, &mut draft, &mut turns) {
         Ok(certificate) => Ok(Attempt::Found(certificate)),
+        Err(GuessFault::NoMemory) => Err(GuessFault::NoMemory),
         Err(fault) => match draft {
             Some(found) => drafted_by_sums(image, declaration, found),
             None => Err(fault),

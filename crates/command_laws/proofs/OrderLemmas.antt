@@ -84,10 +84,6 @@ behind_declaration : {A : Type 0} {W : Fault → Type 0} (f : Fault) → ComesBe
 behind_declaration (fault.Declared d) behind is of_text = absurd (behind.declared d is)
 behind_declaration _ behind is of_text = absurd (true≢false (sym of_text))
 
-tape_isnt_declared : {A : Type 0} (tape : Input) (f : Fault) → IsTapeInputFault tape f → is_fault_of_declaration f ≡ true → A
-tape_isnt_declared tape (fault.Declared d) is of_text = absurd is
-tape_isnt_declared tape _ is of_text = absurd (true≢false (sym of_text))
-
 pub one_in_order : {T : Type 0} {F : Input → Fault → Type 0} {G : Option (List ℕ) → Type 0} {K : Option (List ℕ) → Option (List ℕ) → Type 0} {one : Input} {W : Fault → Type 0} (result : Result T Fault) →
     NoRead W → Reads {T = T} F G K one (Unit {0}) (FailsBy W) result → OneInOrder F G K W one result
 one_in_order {T = T} {F = F} {G = G} {K = K} {one = one} {W = W} result none h = record {

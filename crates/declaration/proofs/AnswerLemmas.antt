@@ -45,8 +45,8 @@ contents_no_memory text e = go (nat_le (length text) most_bytes) e
     go false is = cc
 
 or_no_memory : (first other : Option DeclarationFault) → (first ≡ Some NoMemory → ⊥) → (other ≡ Some NoMemory → ⊥) → option_or first other ≡ Some NoMemory → ⊥
-or_no_memory None other no later e = later e
-or_no_memory (Some fault) other no later e = no e
+or_no_memory None other first_not later e = later e
+or_no_memory (Some fault) other first_not later e = first_not e
 
 at_no_memory : (fault : ℕ → DeclarationFault) (o : Option ℕ) → ((a : ℕ) → fault a ≢ NoMemory) → option_map fault o ≡ Some NoMemory → ⊥
 at_no_memory fault None known e = cc
@@ -71,8 +71,8 @@ no_start_no_memory None e = cc
 no_start_no_memory (Some s) e = cc
 
 unless_no_memory : (o : Option DeclarationFault) (d : Declaration) → (o ≡ Some NoMemory → ⊥) → unless o d ≡ Err NoMemory → ⊥
-unless_no_memory None d no e = cc
-unless_no_memory (Some fault) d no e = let same : fault ≡ NoMemory = cc in no (ap Some same)
+unless_no_memory None d known e = cc
+unless_no_memory (Some fault) d known e = let same : fault ≡ NoMemory = cc in known (ap Some same)
 
 whole_no_memory : (c : Contents) → whole c ≡ Err NoMemory → ⊥
 whole_no_memory c =

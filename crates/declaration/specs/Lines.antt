@@ -48,7 +48,7 @@ abbrev pub all_of : (List ℕ → Option Words) → List (List ℕ) → Option W
 all_of read [] = Some nothing
 all_of read (word ∷ words) = option_map (λ it. union it.0 it.1) (option_zip (read word) (all_of read words))
 
--- The same of one or more words; none if there is no word.
+-- The numbers that one or more words spell together; none if there is no word, or if one of them spells no set.
 abbrev pub some_of : (List ℕ → Option Words) → List (List ℕ) → Option Words
 some_of read [] = None
 some_of read (word ∷ words) = all_of read (word ∷ words)

@@ -195,7 +195,7 @@ fn body(rest: &mut Words<'_>) -> Option<WordSet>
     }
 }
 
-/// The same of ranges of which there may be none.
+/// The cells of ranges, of which there may be none, up to the word `returns`, which is taken too.
 fn body_cells(rest: &mut Words<'_>) -> Option<WordSet>
     ensures cells { option_map words result ≡ ranges_before (words_left rest.old) }
     ensures rest { OnSome result

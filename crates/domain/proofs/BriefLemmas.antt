@@ -4,7 +4,7 @@ use Rattle.std.specs.Prelude.{nat_lt, not, Some, None}
 use Rattle.std.proofs.Math.Path.{fun_ext}
 use Rattle.std.proofs.lemmas.Bool.Decides.{nat_tests}
 use Rattle.std.proofs.lemmas.Bool.{cases_eq, cases_lt, eq-eqb, ne_eqb}
-use Rattle.wordset.specs.Words.{Words, between, one, nothing, with_word, meet, has_some, only, IsWithin, IsFirstFrom}
+use Rattle.wordset.specs.Words.{Words, between, one, nothing, with_word, meet, has_some, only, IsFirstFrom}
 use Rattle.wordset.proofs.Tests.{some_from, some_none_of}
 use Rattle.wordset.proofs.Firsts.{only_next, only_two, only_nothing}
 
@@ -15,12 +15,6 @@ same_if false false f g = refl
 
 pub in_row : (a b v : ℕ) → a ≤ v → v ≤ b → between a b v ≡ true
 in_row a b v h g = grind (arith, nat_tests)
-
-pub of_row_low : (a b v : ℕ) → between a b v ≡ true → a ≤ v
-of_row_low a b v e = grind (arith, nat_tests)
-
-pub of_row_high : (a b v : ℕ) → between a b v ≡ true → v ≤ b
-of_row_high a b v e = grind (arith, nat_tests)
 
 pub below_row : (a b v : ℕ) → v < a → between a b v ≡ false
 below_row a b v h = grind (arith, nat_tests)
@@ -100,9 +94,6 @@ row_has a b h s = some_from 4096 (between a b) a (omega arith) (in_row a b a (om
 
 pub row_has_none : (a b : ℕ) → b < a → has_some (between a b) ≡ false
 row_has_none a b h = some_none_of 4096 (between a b) (λ v lt. none_at a b v h)
-
-pub within_empty : (a b : ℕ) (s : Words) → b < a → IsWithin (between a b) s
-within_empty a b s h v lt e = absurd (omega (arith, of_row_low a b v e, of_row_high a b v e))
 
 less : (a b : ℕ) → a < b → nat_lt a b ≡ true
 less a b h = grind (arith, nat_tests)

@@ -45,7 +45,7 @@ set_of_shape f [] = all_words
 set_of_shape f (s ∷ []) = set_of_term f s.term
 set_of_shape f (s ∷ t ∷ ts) = set_among (s ∷ t ∷ ts) f.relations
 
--- The same of a sum that is one of the shapes by this sign: its negatives, where all signs are changed. Of a sum that has no
+-- The set of a sum that is one of the shapes by this sign: its negatives, where all signs are changed. Of a sum that has no
 -- shape nothing is given.
 abbrev pub set_if_spelled : Fact → Option Spelled → Words
 set_if_spelled f None = all_words
@@ -81,7 +81,7 @@ with_shape_in rules (s ∷ t ∷ ts) set f =
     then record f { relations = with_relation (s ∷ t ∷ ts) set f.relations }
     else f
 
--- The same, of a sum that is one of the shapes by this sign; of one that has no shape nothing is added.
+-- The fact with the set of a sum that is one of the shapes by this sign; of one that has no shape nothing is added.
 abbrev pub with_spelled_in : Rules → Option Spelled → Words → Fact → Fact
 with_spelled_in rules None set f = f
 with_spelled_in rules (Some s) set f = with_shape_in rules s.sum (times s.sign set) f

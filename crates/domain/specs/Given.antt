@@ -15,7 +15,7 @@ is_allowed_pair ac links made after w l = ac w && (links l && ((made == w) && (a
 abbrev pub gives_allowed_from : Words → Words → Chain → ℕ → ℕ → ℕ → ℕ → Bool
 gives_allowed_from ac links c k v w l = ac w && (links l && gives_from c k v w l)
 
--- The same, whichever link it begins with.
+-- A chain gives the accumulator w and the link l of the cell's word v with some first link, and the sets allow both.
 abbrev pub gives_allowed : Words → Words → Chain → ℕ → ℕ → ℕ → Bool
 gives_allowed ac links c v w l = ac w && (links l && gives c v w l)
 
@@ -23,7 +23,7 @@ gives_allowed ac links c v w l = ac w && (links l && gives c v w l)
 abbrev pub gives_link_from : Words → Chain → ℕ → ℕ → ℕ → Bool
 gives_link_from ac c k v l = some_below 4096 (λ w. ac w && gives_from c k v w l)
 
--- The same, whichever link it begins with.
+-- A chain gives the link l of the cell's word v with some first link, with an accumulator of a set.
 abbrev pub gives_link : Words → Chain → ℕ → ℕ → Bool
 gives_link ac c v l = some_below 4096 (λ w. ac w && gives c v w l)
 

@@ -76,7 +76,7 @@ AddedIsSo =
     (rules : Rules) (start : Cells) (f : Fact) (v : Values) (link : ℕ) (r : Relation) →
     AreWords start → AreValues v → Holds f v start link → IsTrueOf v start r → Holds (adding rules r f) v start link
 
--- The same of several relations.
+-- If a fact holds and several relations are true, the fact holds to which all of them are added.
 abbrev pub AllAddedIsSo : Type 0
 AllAddedIsSo =
     (rules : Rules) (start : Cells) (f : Fact) (v : Values) (link : ℕ) (rs : List Relation) →
@@ -156,7 +156,7 @@ MovedIsSo =
     GoesUp a d v w → d < 4096 → by d ≡ true → IsTrueOf v start r →
     AllTrue w start (moved_relation a by (only by) r)
 
--- The same of several relations.
+-- If a word of a set was added to the word of a cell, relations that were true are true as they move by the set.
 abbrev pub AllMovedIsSo : Type 0
 AllMovedIsSo =
     (a d : ℕ) (by : Words) (start : Cells) (v w : Values) (rs : List Relation) →

@@ -68,7 +68,7 @@ abbrev pub words_by : Rules → Image → Fact → Location → Words
 words_by OfSums image f n = f.set n
 words_by OfEquations image f n = (narrowed image f).set n
 
--- The same at a place.
+-- The words that a name may have by what the fact says, at a place.
 abbrev pub words_known : Place → Fact → Location → Words
 words_known pl f n = words_by pl.rules pl.image f n
 

@@ -72,7 +72,7 @@ with_summand c t (s ∷ ss) =
     if same_term t s.term then with_coefficient (plus c s.coefficient) t ss
     else (if term_is_before t s.term then with_coefficient (c % 4096) t (s ∷ ss) else s ∷ with_summand c t ss)
 
--- The same sum with each term once, in the order of terms, and without those of coefficient 0.
+-- The sum with each term once, in the order of terms, and without those of coefficient 0.
 abbrev pub collected : Sum → Sum
 collected [] = []
 collected (s ∷ ss) = with_summand s.coefficient s.term (collected ss)
@@ -91,7 +91,7 @@ arranged sum =
 abbrev pub multiplied : ℕ → Sum → Sum
 multiplied c sum = map (λ s. record { coefficient = (c * s.coefficient) % 4096; term = s.term }) sum
 
--- The same two sums, summand by summand.
+-- Two sums are equal, summand by summand.
 abbrev pub same_sum : Sum → Sum → Bool
 same_sum [] [] = true
 same_sum (s ∷ ss) (t ∷ ts) = (s.coefficient == t.coefficient) && (same_term s.term t.term && same_sum ss ts)

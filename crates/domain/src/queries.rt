@@ -277,7 +277,7 @@ impl<const C: usize, const R: usize> SumFact<C, R> {
         }
     }
 
-    /// The same of any sum, by the differences of sets.
+    /// Keeps what a relation of any sum leaves of the name's words, by the differences of sets.
     fn keep_for_both(
         &self,
         image: &Image,

@@ -102,7 +102,7 @@ impl Relation {
 impl Term {
     ghost use Rattle.domain.specs.InCode.{term_of};
 
-    /// The same word's term after a number was added to a cell's word: what stands behind the cell is after it by so much less.
+    /// The term of a word after a number was added to a cell's word: what stands behind the cell is after it by so much less.
     pub fn counted(&self, cell: Word, by: Word) -> Term
         ensures { term_of result ≡ counted_term cell by (term_of self.now) }
     {

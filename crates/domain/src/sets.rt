@@ -68,7 +68,7 @@ pub fn keep_divided(c: Word, set: &WordSet, place: &mut WordSet)
     keep_each_divided(c, set, place);
 }
 
-/// The same, word by word.
+/// Keeps of the place's words those whose multiple is in the set, word by word.
 #[inline(never)]
 fn keep_each_divided(c: Word, set: &WordSet, place: &mut WordSet)
     ensures { words place.new ≡ meet (words place.old) (λ v. words set.now ((c * v) % 4096)) }

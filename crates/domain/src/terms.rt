@@ -264,7 +264,7 @@ impl Sum {
         sum
     }
 
-    /// The same sum with each term once, in the order of terms, and without those of coefficient 0.
+    /// The sum with each term once, in the order of terms, and without those of coefficient 0.
     pub fn collected(&self) -> Sum
         ensures sum { sum_of result ≡ collected (sum_of self.now) }
         ensures few { length (sum_of result) ≤ length (sum_of self.now) }

@@ -1,15 +1,14 @@
 -- What is asked of a word: the cells that it reads, writes and calls.
-use Rattle.std.proofs.Common.{◌≡◌, ℕ, ◌+◌, ◌<◌, arith, ◌==◌, Bool, true, false, ◌&&◌, ◌||◌, Option, Some, None, ◌⊎◌, refl, sym, ap, ◌∙◌, subst, inl, inr}
-use Rattle.std.proofs.lemmas.Bool.{eqb-true, eq-eqb, lt-ltb, le-ltb, cases_lt, false≢true}
-use Rattle.std.proofs.lemmas.Bool.Decides.{nat_tests}
+use Rattle.std.proofs.Common.{◌≡◌, ℕ, ◌==◌, Bool, true, false, ◌&&◌, ◌||◌, Option, Some, None, refl, sym, ap, ◌∙◌, subst, inl}
+use Rattle.std.proofs.lemmas.Bool.{eqb-true, eq-eqb, false≢true}
 use Rattle.std.proofs.Math.Path.{fun_ext}
-use Rattle.std.specs.Prelude.{IsTrue, ◌↔◌, is_some, nat_lt, if◌then◌else◌}
+use Rattle.std.specs.Prelude.{IsTrue, ◌↔◌, is_some}
 use Rattle.instruct.specs.declared.Instruction.TheVariants.{Memory}
 use Rattle.instruct.specs.declared.Operation.{Operation}
 use Rattle.instruct.specs.declared.Operation.TheVariants as operation
 use Rattle.instruct.specs.Bits.{is_indirect, named_cell}
 use Rattle.instruct.specs.Instructions.{Meaning, kind_of, operation_of, reference}
-use Rattle.wordset.specs.Words.{Words, nothing, one, only, between, union, IsWithin, SameWords}
+use Rattle.wordset.specs.Words.{Words, one, only, union, IsWithin, SameWords}
 use Rattle.wordset.proofs.LaneBits.{or_false}
 use Rattle.processor.specs.Machine.{steps_pointer}
 use Rattle.declaration.specs.Declaration.{IsListed}
@@ -127,30 +126,12 @@ moves_in {i} {n} pl f at w a k ei en =
     go operation.Dca = (λ q. (refl, q.0, ap (λ r. is_routine r a) q.1 ∙ eq-eqb a a refl, q.2, q.3), λ p. (p.1, is_own pl.routine p.2, p.3, p.4))
     go _ = (λ q. absurd q, λ p. absurd (false≢true p.0))
 
--- of two ways to change an entry
-pub either_way : {E P Q : Type 0} (a b : Bool) → (IsTrue a ↔ P) → (IsTrue b ↔ Q) → E → IsTrue (a || b) ↔ (E → P ⊎ Q)
-either_way true b told more here = (λ q e. inl (told.0 refl), λ h. refl)
-either_way false b told more here = (λ q e. inr (more.0 q), λ h. elim (h here) [ inl p ↦ absurd (false≢true (told.1 p)) | inr q ↦ more.1 q ])
-
 pub no_entry : {e : Bool} {X : Type 0} (known : Bool) → known ≡ e → known ≡ false → IsTrue true ↔ (e ≡ true → X)
 no_entry known same lacks = (λ q is. absurd (false≢true (sym lacks ∙ (same ∙ is))), λ h. refl)
 
 -- the words within reach of a site
 pub within_reach : (known near : Words) (a : ℕ) → SameWords near (reach a) → IsWithin known near → IsWithin known (reach a)
 within_reach known near a same h w lt has = sym (same w lt) ∙ h w lt has
-
-pub not_within_reach : (known near : Words) (a : ℕ) → SameWords near (reach a) → IsWithin known (reach a) → IsWithin known near
-not_within_reach known near a same h w lt has = same w lt ∙ h w lt has
-
--- the words behind an address, by the row that has them
-pub reach_row : (a first last : ℕ) → a < 4095 → first ≡ a + 1 → last ≡ (if nat_lt a 4032 then a + 64 else 4095) → SameWords (between first last) (reach a)
-reach_row a first last low is_first is_last v lt = elim (cases_lt a 4032) [
-  | inl under ↦ (let e : last ≡ a + 64 = is_last ∙ rw (lt-ltb a 4032 under) refl in rw (is_first, e) (grind (arith, nat_tests)))
-  | inr over ↦ (let e : last ≡ 4095 = is_last ∙ rw (le-ltb a 4032 over) refl in rw (is_first, e) (grind (arith, nat_tests)))
-]
-
-pub reach_none : (a : ℕ) → a ≡ 4095 → SameWords nothing (reach a)
-reach_none a is v lt = rw is (grind (arith, nat_tests))
 
 -- without a list of reads
 pub reads_unlisted : (pl : Place) (f : Fact) (m : Meaning) (b : Bool) → b ≡ is_some pl.declaration.reads → b ≡ false → IsTrue true ↔ ReadsAreListed pl f m

@@ -3,7 +3,7 @@ use Rattle.std.proofs.Common.{◌≡◌, ℕ, ◌+◌, ◌<◌, ◌≤◌, ◌==
 use Rattle.std.specs.Prelude.{Option, None, Some, IfNone, IfSome, IsTrue, ◌↔◌, MatchOption, nat_lt, not}
 use Rattle.std.proofs.lemmas.Bool.{false≢true, true≢false}
 use Rattle.std.proofs.lemmas.Bool.Decides.{nat_tests}
-use Rattle.wordset.specs.Words.{Words, IsWithin, SameWords, IsFirstFrom, HasNoneFrom, difference, union}
+use Rattle.wordset.specs.Words.{Words, SameWords, IsFirstFrom, HasNoneFrom, difference, union}
 use Rattle.domain.specs.Facts.{Fact, Place}
 use Rattle.declaration.specs.Declaration.{Assertion, PlaceAssertion, ReturnAssertion}
 use Rattle.std.proofs.Math.ListN.{drop_of_length-le}
@@ -126,9 +126,6 @@ module _ {A : Type 0} (g : A → ReturnAssertion) (pl : Place) (f : Fact) (e o :
 
 pub not_there : {b : Bool} {P Q : Type 0} → (P → b ≡ true) → b ≡ false → IsTrue true ↔ (P → Q)
 not_there has off = (λ t p. absurd (true≢false (sym (has p) ∙ off)), λ k. refl)
-
-pub if_asserted : {b : Bool} {P Q : Type 0} → (IsTrue b ↔ Q) → P → IsTrue b ↔ (P → Q)
-if_asserted told here = (λ t p. told.0 t, λ k. told.1 (k here))
 
 pub not_so : {b : Bool} {P : Type 0} → (IsTrue b ↔ P) → b ≡ false → P → ⊥
 not_so told off p = false≢true (sym off ∙ told.1 p)

@@ -159,7 +159,7 @@ impl AllowedValues<'_> {
         }
         true
     }
-    /// The same of both links.
+    /// Whether a chain gives the pair of an accumulator and either link, or that pair is not allowed beside the word.
     fn permits_both(&self, chain: &Chain, word: Word, ac: Word) -> bool
         ensures { IsTrue result ↔ ((l : ℕ) → l < 2 → GivesIfAllowed (words self.now.accumulators.now)
             (links_of self.now.links) (map chain_of self.now.chains.now) (chain_of chain.now) word ac l) }
@@ -197,7 +197,8 @@ impl AllowedValues<'_> {
         self.permits(chain, word, ac, link)
     }
 
-    /// The same of both links with which the other chain may begin.
+    /// Whether a chain gives each pair that another chain on its cell makes of a word with either first link, or the pair is not
+    /// allowed.
     fn permits_by(&self, other: &Chain, chain: &Chain, word: Word) -> bool
         ensures { IsTrue result ↔ ((w l : ℕ) → gives (chain_of other.now) word w l ≡ true →
             GivesIfAllowed (words self.now.accumulators.now) (links_of self.now.links) (map chain_of self.now.chains.now)
@@ -224,7 +225,7 @@ impl AllowedValues<'_> {
         self.permits_each(chain, word)
     }
 
-    /// The same of each word of a set.
+    /// Whether a chain gives an allowed pair of each word of a set.
     fn permits_words(&self, chain: &Chain, cells: &WordSet) -> bool
         ensures { IsTrue result ↔ ((v : ℕ) → v < 4096 → words cells.now v ≡ true →
             GivesAllowed (words self.now.accumulators.now) (links_of self.now.links) (map chain_of self.now.chains.now)
@@ -424,7 +425,8 @@ impl<A: Allocator> Place<'_, A> {
         self.knows_equation_near(fact, relation, &mut 0)
     }
 
-    /// The same, where the fact's own relation at a place is looked at first. The place becomes the next one.
+    /// Whether a fact knows a relation by the rules of equations, where its own relation at a place is looked at first. The place
+    /// becomes the next one.
     fn knows_equation_near<K: KnownFact>(
         &self,
         fact: &K,

@@ -141,7 +141,7 @@ impl<A: Allocator> Place<'_, A> {
         }
     }
 
-    /// The same, one cell after another.
+    /// Puts in the words that any of these cells may hold, one cell after another.
     #[inline(never)]
     fn put_words_at_each<const C: usize, const R: usize>(
         &self,

@@ -240,7 +240,7 @@ fn look_at_words(image: Image)
     let _word = image.get(Word::ZERO);
 }
 
-/// The same of an image that is lent.
+/// An image that is lent holds words too.
 fn look_into(image: &Image)
     ensures { HoldsWords image.now }
 {

@@ -1,5 +1,5 @@
 -- The kind of a word and its meaning, one from the other.
-use Rattle.std.proofs.Common.{ℕ, ◌<◌, ◌≡◌, ◌/◌, ◌≤◌, ◌==◌, arith, refl, sym, ◌∙◌, ap, Bool, true, false, if◌then◌else◌, Option, Some, None, cond, List, [], ◌∷◌, ◌++◌, zero, suc}
+use Rattle.std.proofs.Common.{ℕ, ◌<◌, ◌≡◌, ◌/◌, ◌≤◌, ◌==◌, arith, refl, ap, Bool, true, false, if◌then◌else◌, Option, Some, None, cond, List, [], ◌∷◌, ◌++◌, zero, suc}
 use Rattle.std.specs.List.{find}
 use Rattle.std.specs.Option.{option_map}
 use Rattle.std.proofs.lemmas.Bool.Decides.{nat_tests}
@@ -10,7 +10,7 @@ use Rattle.instruct.specs.declared.devices.DeviceOperation.{DeviceOperation}
 use Rattle.instruct.specs.Bits.{has_bit, is_indirect, named_cell}
 use Rattle.instruct.specs.Devices.{word_of, operations, more_operations, device_operation}
 use Rattle.instruct.specs.Operates.{MqOperate, mq_operate_of}
-use Rattle.instruct.specs.Instructions.{DeviceAction, Meaning, And, Tad, Isz, Dca, Jms, Jmp, Group1, Group2, Group3, Device, Undefined, processor_action, operation_of, reference, device_action, device_meaning, is_group1, mq_meaning, group3_meaning, operate_meaning, meaning_of, kind_of}
+use Rattle.instruct.specs.Instructions.{DeviceAction, Meaning, Group1, Group2, Group3, Device, Undefined, processor_action, operation_of, reference, device_action, device_meaning, is_group1, mq_meaning, group3_meaning, operate_meaning, meaning_of, kind_of}
 
 pub memory_kind : (p : Profile) (at word : ℕ) → word / 512 < 6 → kind_of (meaning_of p at word) ≡ Memory
 unfolding meaning_of
@@ -165,31 +165,6 @@ action_of_8e Pdp8E word a is = is
 action_of_8e Pdp8I word a is =
     let found = mapped (device_operation Pdp8I word) a is in
     rw (operation_of_8e word found.0 found.1) (ap (λ x. Some x) found.2)
-
--- the operation decides the meaning of a memory reference
-pub and_meaning : (p : Profile) (at word : ℕ) → word / 512 ≡ 0 → meaning_of p at word ≡ And (is_indirect word) (named_cell word at)
-unfolding meaning_of
-and_meaning p at word is = rw is refl
-
-pub tad_meaning : (p : Profile) (at word : ℕ) → word / 512 ≡ 1 → meaning_of p at word ≡ Tad (is_indirect word) (named_cell word at)
-unfolding meaning_of
-tad_meaning p at word is = rw is refl
-
-pub isz_meaning : (p : Profile) (at word : ℕ) → word / 512 ≡ 2 → meaning_of p at word ≡ Isz (is_indirect word) (named_cell word at)
-unfolding meaning_of
-isz_meaning p at word is = rw is refl
-
-pub dca_meaning : (p : Profile) (at word : ℕ) → word / 512 ≡ 3 → meaning_of p at word ≡ Dca (is_indirect word) (named_cell word at)
-unfolding meaning_of
-dca_meaning p at word is = rw is refl
-
-pub jms_meaning : (p : Profile) (at word : ℕ) → word / 512 ≡ 4 → meaning_of p at word ≡ Jms (is_indirect word) (named_cell word at)
-unfolding meaning_of
-jms_meaning p at word is = rw is refl
-
-pub jmp_meaning : (p : Profile) (at word : ℕ) → word / 512 ≡ 5 → meaning_of p at word ≡ Jmp (is_indirect word) (named_cell word at)
-unfolding meaning_of
-jmp_meaning p at word is = rw is refl
 
 by_operation : (p : Profile) (at word k : ℕ) → k < 6 → word / 512 ≡ k → meaning_of p at word ≡ reference (operation_of word) (is_indirect word) (named_cell word at)
 unfolding meaning_of

@@ -70,7 +70,7 @@ impl Body {
         self.read(claims, entry)
     }
 
-    /// The same, where it is read; the room for it is made here alone.
+    /// Reads the body of the routine of an entry, and says whether the routine is listed; the room for it is made here alone.
     #[inline(never)]
     fn read<C: Claims>(&mut self, claims: &C, entry: Word) -> bool
         requires { Tells (C.claims claims.now) self.old }

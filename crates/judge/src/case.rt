@@ -271,7 +271,7 @@ impl<A: Allocator, C: Claims> Case<'_, A, C> {
         self.tell(at, place, body)
     }
 
-    /// The same, where there may be several facts.
+    /// Checks the facts at an address at which there may be several.
     fn check_several<M: Allocator>(
         &self,
         at: Word,
@@ -297,7 +297,7 @@ impl<A: Allocator, C: Claims> Case<'_, A, C> {
         self.tell(at, place, body)
     }
 
-    /// The same, where there is no fact: of the exits of the routine of this entry, if there are some.
+    /// Checks an address at which there is no fact: the exits of the routine of this entry, if there are some.
     fn check_exits<M: Allocator>(
         &self,
         at: Word,
@@ -341,7 +341,7 @@ impl<A: Allocator, C: Claims> Case<'_, A, C> {
         true
     }
 
-    /// The same of the exits for one offset.
+    /// Whether the exits of the routine of an entry for one offset are held.
     fn exits_are_held_by(
         &self,
         entry: Word,
@@ -391,7 +391,7 @@ impl<A: Allocator, C: Claims> Case<'_, A, C> {
         }
     }
 
-    /// The same of one exit, if conditions are checked for it.
+    /// Whether one exit is held, if conditions are checked for it.
     fn exit_is_held(
         &self,
         entry: Word,

@@ -68,7 +68,7 @@ impl<A: Allocator, C: Claims, const K: usize, const S: usize> Point<'_, A, C, K,
         place.lands(known, &among, rooms)
     }
 
-    /// The same at the address of a fact that is kept, in the same body.
+    /// Whether what comes next lands at the address of a fact that is kept, in the same body.
     fn lands_ahead(&self, at: Word, kept: &FactCache, known: &NextFact) -> bool
         requires point { IsPoint C.claims self.now }
         requires ahead { StandsAhead (C.claims self.now.claims.now) (words self.now.body.now.claim.sites) kept.now }
@@ -141,7 +141,7 @@ impl<A: Allocator, C: Claims, const K: usize, const S: usize> Point<'_, A, C, K,
         }
     }
 
-    /// The same, where there may be several; the room for them is made here alone.
+    /// Whether what comes next lands at each target, where there may be several; the room for them is made here alone.
     #[inline(never)]
     fn lands_at_several(
         &self,

@@ -67,7 +67,7 @@ pub struct Point<'a, A: Allocator, C: Claims, const K: usize, const S: usize> {
     pub near: usize,
 }
 
-/// The same of a fact that has room for being narrowed, by whichever rules.
+/// A point whose fact has room for being narrowed, by whichever rules.
 pub type NarrowedPoint<'a, A, C> = Point<'a, A, C, 132, 68>;
 
 /// The place of the facts in a routine's body.

@@ -88,7 +88,7 @@ impl<A: Allocator, C: Claims, const K: usize, const S: usize> Point<'_, A, C, K,
         word_of(self.place.image, self.at)
     }
 
-    /// The same, where a word is the only one that is possible.
+    /// Checks the conditions on the one word that is possible here.
     fn check_word<M: Allocator>(
         &self,
         word: Word,
@@ -124,7 +124,7 @@ impl<A: Allocator, C: Claims, const K: usize, const S: usize> Point<'_, A, C, K,
         self.holds_for(condition, word, others)
     }
 
-    /// The same, whichever words are possible; the room for them is made here alone.
+    /// Checks the conditions on whichever words are possible here; the room for them is made here alone.
     #[inline(never)]
     fn check_words<M: Allocator>(&self, limit: usize, others: &mut ComparisonWorkspace<M>) -> usize
         requires point { IsPoint C.claims self.now }

@@ -42,11 +42,6 @@ pub last_call : (cs : List KeptCall) (c : KeptCall) → slice_get cs (length cs 
 last_call [] c is = absurd (none_last c is)
 last_call (d ∷ cs) c is = last_of d cs c (length (d ∷ cs) - 1) (grind (arith, common_steps)) is
 
--- there is a last call exactly where there are calls
-pub no_last_call : (cs : List KeptCall) → slice_get cs (length cs - 1) ≡ None → open_calls cs ≡ []
-no_last_call [] is = refl
-no_last_call (d ∷ cs) is = absurd (past d cs (length (d ∷ cs) - 1) (grind (arith, common_steps)) is)
-
 -- whether the last call is found
 pub last_found : (d : Declaration) (e word : ℕ) (cs : List KeptCall) (c : KeptCall) → slice_get cs (length cs - 1) ≡ Some c →
     finds_call d e word (open_calls cs) ≡ ((c.entry == e) && (nat_lt (minus word c.after) 64 && d.offset e (minus word c.after)))

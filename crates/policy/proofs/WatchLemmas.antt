@@ -1,6 +1,6 @@
 -- Watched runs: each event leads to one world, and the code stays.
 use Rattle.std.proofs.Common.{ℕ, ◌≡◌, ◌<◌, ◌≤◌, ◌+◌, Bool, true, false, inl, inr, Option, Some, None, List, [], ◌∷◌, ◌++◌, refl, sym, ap, ◌∙◌, subst, arith}
-use Rattle.std.specs.Prelude.{if◌then◌else◌, not, IsTrue, take, length, slice_get}
+use Rattle.std.specs.Prelude.{if◌then◌else◌, not, take, length, slice_get}
 use Rattle.std.proofs.lemmas.Option.{slice_get_within}
 use Rattle.std.proofs.lemmas.Bool.{cases_eq}
 use Rattle.instruct.specs.declared.Profile.{Profile}
@@ -11,7 +11,6 @@ use Rattle.peripherals.specs.declared.Event.{Event}
 use Rattle.peripherals.specs.declared.Event.TheVariants.{Step as Instruct, Key, PrinterDone, ReaderDone, PunchDone, Switches, Continue}
 use Rattle.peripherals.specs.Devices.{WorldState, answer_of}
 use Rattle.peripherals.specs.Events.{Happens}
-use Rattle.peripherals.specs.EventOutcomes.{puts_out}
 use Rattle.peripherals.proofs.OneLemmas.{one_world}
 use Rattle.processor.specs.declared.fetch.DecodedInstruction.{DecodedInstruction}
 use Rattle.declaration.specs.Declaration.{Declaration, IsDeclared}
@@ -114,15 +113,6 @@ passes_on d w ks PunchDone x passes happens = quiet d w ks PunchDone x happens r
 passes_on d w ks (Switches word) x passes happens = quiet d w ks (Switches word) x happens refl (λ is. cc) (ap (λ (v : WorldState). v.state) happens.1)
 passes_on d w ks Continue x passes happens = quiet d w ks Continue x (continued d w x passes happens) refl (λ is. cc) (ap (λ (v : WorldState). v.state) happens)
 
-pub passes_without : (d : Declaration) (w : WorldState) (e : Event) → Passes d w e → IsTrue (puts_out w e) → ⊥
-passes_without d w Instruct passes puts = passes
-passes_without d w (Key byte) passes puts = cc
-passes_without d w PrinterDone passes puts = cc
-passes_without d w (ReaderDone byte) passes puts = cc
-passes_without d w PunchDone passes puts = cc
-passes_without d w (Switches word) passes puts = cc
-passes_without d w Continue passes puts = cc
-
 -- a CONTINUE where the machine doesn't wait
 pub goes_on : (d : Declaration) (halted : Option ℕ) → waits d halted ≡ false → resumed d halted ≡ None
 goes_on d None is = refl
@@ -139,11 +129,6 @@ still d (Some at) is = at_stop (d.pause at) at is
     at_stop : (pause : Bool) (at : ℕ) → not pause ≡ true → (if pause then None else Some at) ≡ Some at
     at_stop true at is = cc
     at_stop false at is = refl
-
--- a CONTINUE at a stop
-pub stays_halted : (d : Declaration) (w : WorldState) (ks : Calls) → waits d w.halted_at ≡ true → Goes d w ks Continue w ks
-stays_halted d w ks waiting =
-    quiet d w ks Continue w (ap (λ (h : Option ℕ). let made : WorldState = record w { halted_at = h } in made) (sym (still d w.halted_at waiting))) refl (λ is. cc) refl
 
 -- a step while the machine is halted
 halted_calls : (d : Declaration) (w : WorldState) (ks : Calls) (halted : Option ℕ) (at : ℕ) → halted ≡ Some at → ks ≡ calls_running d w halted ks

@@ -43,10 +43,12 @@ loads Tad = true
 loads Isz = true
 loads _ = false
 
+-- A JMS is the only instruction that calls a routine.
 abbrev pub is_jms : Operation → Bool
 is_jms Jms = true
 is_jms _ = false
 
+-- A JMP is the only instruction that can return from a routine or abandon all calls.
 abbrev pub is_jmp : Operation → Bool
 is_jmp Jmp = true
 is_jmp _ = false
@@ -136,7 +138,7 @@ abbrev pub holds_at_return : Declaration → ℕ → State → Calls → Bool
 holds_at_return d e s [] = true
 holds_at_return d e s (k ∷ ks) = implies (k.entry == e) (each_holds_by d.returns e (minus (s.memory e) k.after) s)
 
--- The same of an instruction, if it is a return.
+-- If the instruction is a return, what is declared to hold at it holds.
 abbrev pub returns_hold : Declaration → DecodedInstruction → State → Calls → Bool
 returns_hold d (Refers r) s ks = implies (is_return d r) (holds_at_return d r.named s ks)
 returns_hold d _ s ks = true

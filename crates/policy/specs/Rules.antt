@@ -126,7 +126,7 @@ abbrev pub HoldsAtReturn : Declaration → ℕ → State → Calls → Type 0
 HoldsAtReturn d e s [] = Unit {0}
 HoldsAtReturn d e s (k ∷ ks) = k.entry ≡ e → EachHoldsBy d.returns e (minus (s.memory e) k.after) s
 
--- The same for an instruction, if it is a return.
+-- If the instruction is a return, the assertions about this return are true.
 abbrev pub ReturnsHold : Declaration → Meaning → State → Calls → Type 0
 ReturnsHold d (Jmp i c) s ks = i ≡ true → d.entry c ≡ true → HoldsAtReturn d c s ks
 ReturnsHold d _ s ks = Unit {0}

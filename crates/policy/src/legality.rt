@@ -321,7 +321,7 @@ fn each_holds(holds: &[PlaceAssertion], cpu: &Cpu) -> bool
     true
 }
 
-/// The same of one assertion.
+/// Whether one assertion about addresses is so, if it speaks of the program counter.
 fn holds_here(holding: &PlaceAssertion, cpu: &Cpu) -> bool
     ensures { result ≡ each_holds (place_assertion_of holding.now ∷ []) (state_of cpu.now) }
 {
@@ -341,7 +341,7 @@ fn each_holds_by(returns: &[ReturnAssertion], entry: Word, offset: Word, cpu: &C
     true
 }
 
-/// The same of one assertion.
+/// Whether one assertion about returns is so, if it speaks of a return of this routine by this offset.
 fn holds_by(returning: &ReturnAssertion, entry: Word, offset: Word, cpu: &Cpu) -> bool
     ensures { result
         ≡ each_holds_by (return_assertion_of returning.now ∷ []) entry offset (state_of cpu.now) }

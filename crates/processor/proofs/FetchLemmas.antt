@@ -5,7 +5,6 @@ use Rattle.instruct.specs.declared.Operation.TheVariants as operation
 use Rattle.instruct.specs.declared.Instruction.TheVariants.{Operate1, Operate2, Operate3, Iot, Unsupported}
 use Rattle.instruct.specs.declared.Profile.{Profile}
 use Rattle.instruct.specs.Instructions.{Meaning, And, Tad, Isz, Dca, Jms, Jmp, Group1, Group2, Group3, Device, Undefined, meaning_of, kind_of, reference}
-use Rattle.instruct.proofs.KindLemmas.{group1_meaning, group2_meaning, group3_meaning_of, device_meaning_of, undefined_meaning}
 use Rattle.processor.specs.Cells.{Cells}
 use Rattle.processor.specs.Machine.{State, instruction}
 use Rattle.processor.specs.Fetch.{refers, refers_by, decoded, fetched, IsPlaced}
@@ -59,19 +58,3 @@ by_operation operation.Jmp i c word memory = refl
 
 pub reference_fetched : (m : Meaning) (o : Operation) (i : Bool) (c word : ℕ) (memory : Cells) → m ≡ reference o i c → decoded m word memory ≡ refers o i c memory
 reference_fetched m o i c word memory is = rw is (by_operation o i c word memory)
-
--- a word of another kind
-pub operate1_fetched : (p : Profile) (at word : ℕ) (memory : Cells) → kind_of (meaning_of p at word) ≡ Operate1 → decoded (meaning_of p at word) word memory ≡ fetch.Operate1 word
-operate1_fetched p at word memory kind = rw (group1_meaning p at word kind) refl
-
-pub operate2_fetched : (p : Profile) (at word : ℕ) (memory : Cells) → kind_of (meaning_of p at word) ≡ Operate2 → decoded (meaning_of p at word) word memory ≡ fetch.Operate2 word
-operate2_fetched p at word memory kind = rw (group2_meaning p at word kind) refl
-
-pub operate3_fetched : (p : Profile) (at word : ℕ) (memory : Cells) → kind_of (meaning_of p at word) ≡ Operate3 → decoded (meaning_of p at word) word memory ≡ fetch.Operate3 word
-operate3_fetched p at word memory kind = rw ((group3_meaning_of p at word kind).2) refl
-
-pub device_fetched : (p : Profile) (at word : ℕ) (memory : Cells) → kind_of (meaning_of p at word) ≡ Iot → decoded (meaning_of p at word) word memory ≡ fetch.Device word
-device_fetched p at word memory kind = rw ((device_meaning_of p at word kind).2) refl
-
-pub undefined_fetched : (p : Profile) (at word : ℕ) (memory : Cells) → kind_of (meaning_of p at word) ≡ Unsupported → decoded (meaning_of p at word) word memory ≡ fetch.Unsupported word
-undefined_fetched p at word memory kind = rw (undefined_meaning p at word kind) refl

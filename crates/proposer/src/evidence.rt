@@ -2,8 +2,10 @@
 
 use bin_tape::Image;
 use declaration::{Declaration, Owner};
+use instruct::Operation;
 use peripherals::{Event, NoMemory};
 use policy::Watcher;
+use processor::DecodedInstruction;
 use run_search::StepRecord;
 use std::alloc::Allocator;
 use word12::Word;
@@ -20,6 +22,8 @@ pub struct Evidence<A: Allocator> {
     pub(crate) called: WordSet,
     /// The cells that were written, but the running routine's own entry by an ISZ, and entries by a JMS.
     pub(crate) written: WordSet,
+    /// The cells of which an instruction took the word.
+    read: WordSet,
     /// The pauses after which CONTINUE was pressed.
     pub(crate) continued: WordSet,
     /// The halts after which it leads to what no declaration allows, if the operator goes on.
@@ -40,6 +44,7 @@ impl<A: Allocator + Copy> Evidence<A> {
             ran: WordSet::empty(),
             called: WordSet::empty(),
             written: WordSet::empty(),
+            read: WordSet::empty(),
             continued: WordSet::empty(),
             stopped: WordSet::empty(),
             jumped: None,
@@ -56,7 +61,13 @@ impl<A: Allocator + Copy> Evidence<A> {
         image.get(at).is_some() || self.written.contains(at)
     }
 
-    /// The cell that an event is about to execute though neither the tape nor a run has put a word there, if it does.
+    /// Whether a cell may hold any word when control comes to it: neither the tape nor a run has put a word there, and no
+    /// instruction took the word there, which the program may have tested.
+    pub(crate) fn holds_any_word(&self, image: &Image, at: Word) -> bool {
+        !self.is_set(image, at) && !self.read.contains(at)
+    }
+
+    /// The cell that an event is about to execute though it may hold any word, if it does.
     pub(crate) fn unset_cell(
         &self,
         image: &Image,
@@ -65,10 +76,10 @@ impl<A: Allocator + Copy> Evidence<A> {
     ) -> Option<Word> {
         let world = watcher.world();
         let at = world.cpu().pc;
-        if event != Event::Step || world.halted_at().is_some() || self.is_set(image, at) {
+        if event != Event::Step || world.halted_at().is_some() {
             return None;
         }
-        Some(at)
+        self.holds_any_word(image, at).then_some(at)
     }
 
     /// Forgets what runs did: the halts after which they went on are stops from now on.
@@ -80,6 +91,7 @@ impl<A: Allocator + Copy> Evidence<A> {
         self.ran = WordSet::empty();
         self.called = WordSet::empty();
         self.written = WordSet::empty();
+        self.read = WordSet::empty();
         self.continued = WordSet::empty();
         self.jumped = None;
     }
@@ -104,6 +116,18 @@ impl<A: Allocator + Copy> Evidence<A> {
         self.jumped = sight.jumped;
     }
 
+    /// The cells of which the next step of a machine that is watched takes the word.
+    fn takes(&mut self, watcher: &Watcher<A>) {
+        if let DecodedInstruction::Refers(reference) = watcher.world().cpu().fetch() {
+            if reference.indirect {
+                self.read.insert(reference.named);
+            }
+            if let Operation::And | Operation::Tad | Operation::Isz = reference.operation {
+                self.read.insert(reference.place);
+            }
+        }
+    }
+
     /// The routine that runs was called.
     pub(crate) fn runs(&mut self, watcher: &Watcher<A>) {
         if let Some(call) = watcher.calls().last() {
@@ -119,7 +143,10 @@ impl<A: Allocator + Copy> Evidence<A> {
         event: Event,
     ) {
         match (event, watcher.world().halted_at()) {
-            (Event::Step, None) => self.sees(&StepRecord::of(watcher)),
+            (Event::Step, None) => {
+                self.takes(watcher);
+                self.sees(&StepRecord::of(watcher));
+            }
             (Event::Continue, Some(at)) if declaration.is_pause(at) => self.continued.insert(at),
             _ => {}
         }

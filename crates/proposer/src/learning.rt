@@ -17,9 +17,10 @@ use wordset::WordSet;
 /// Why no declaration allows what runs did; each with the address at which it is seen.
 #[derive(Clone, Copy, PartialEq, Eq, Debug)]
 pub enum Obstacle {
-    /// Control comes to a word that the machine does not support.
+    /// Control comes to a word that neither of the two machines supports.
     Unsupported(Word),
-    /// Control comes to a cell into which neither the tape nor the program has put a word.
+    /// Control comes to a cell into which neither the tape nor the program has put a word, and the word of which no
+    /// instruction took before.
     Unset(Word),
     /// Control comes to a cell in which a JMS keeps a return address: an entry is in no body.
     RunsEntry(Word),
@@ -245,6 +246,12 @@ fn leaves_for_main<A: Allocator + Copy, D: Allocator>(
         && !declaration.abandons().contains(sight.at)
 }
 
+/// Whether neither of the two machines supports a word.
+fn is_unsupported(word: Word) -> bool {
+    decode(word, Profile::Pdp8I) == Instruction::Unsupported
+        && decode(word, Profile::Pdp8E) == Instruction::Unsupported
+}
+
 /// What is learned of the place of a step: that it is in the running routine's body. If the cell was executed before while another
 /// routine ran, or main, nothing is learned, since calls may have been abandoned in between.
 fn lesson_of_place<A: Allocator + Copy, D: Allocator>(
@@ -258,11 +265,16 @@ fn lesson_of_place<A: Allocator + Copy, D: Allocator>(
     if evidence.called.contains(at) {
         return Refinement::Never(Obstacle::RunsEntry(at));
     }
-    if !evidence.is_set(image, at) {
+    if evidence.holds_any_word(image, at) {
         return Refinement::Never(Obstacle::Unset(at));
     }
-    if decode(word, declaration.profile()) == Instruction::Unsupported {
+    if is_unsupported(word) {
         return Refinement::Never(Obstacle::Unsupported(at));
+    }
+    if !evidence.is_set(image, at)
+        || decode(word, declaration.profile()) == Instruction::Unsupported
+    {
+        return Refinement::Unclear;
     }
     match evidence.owner(at) {
         Some(owner) if owner != sight.owner => return Refinement::Unclear,

@@ -50,8 +50,17 @@ fn displayed_name<'n>(name: &'n str) -> &'n str {
     if name.is_empty() { "\"\"" } else { name }
 }
 
-/// Adds the line about a file that cannot be used in this way, and why if that is known. The number that the system gives
-/// to the reason is left out.
+/// Adds why a file cannot be used. The number that the system gives to the reason is left out.
+fn push_reason(alloc: Global, text: &mut String, error: &io::Error) -> Result<(), AllocError> {
+    let mut reason = String::new(alloc);
+    write!(reason, "{error}")?;
+    match reason.split_once(" (os error") {
+        Some((words, _)) => text.push_str(words),
+        None => text.push_str(&reason),
+    }
+}
+
+/// Adds the line about a file that cannot be used in this way, and why if that is known.
 fn push_failure(
     alloc: Global,
     text: &mut String,
@@ -60,16 +69,12 @@ fn push_failure(
     error: &Option<io::Error>,
 ) -> Result<(), AllocError> {
     let shown = visible_text(alloc, displayed_name(name))?;
-    let Some(error) = error else {
-        return writeln!(text, "{shown} {problem}");
-    };
-    let mut reason = String::new(alloc);
-    write!(reason, "{error}")?;
-    let reason = match reason.split_once(" (os error") {
-        Some((words, _)) => words,
-        None => reason.as_str(),
-    };
-    writeln!(text, "{shown} {problem}: {reason}")
+    write!(text, "{shown} {problem}")?;
+    if let Some(error) = error {
+        text.push_str(": ")?;
+        push_reason(alloc, text, error)?;
+    }
+    text.push_str("\n")
 }
 
 /// The line about an input that cannot be opened or read: the first such input, if there is one. An input that can be

@@ -154,6 +154,7 @@ fn replace<R: Files>(
     }
     file.write_all(bytes)?;
     file.sync_all()?;
+    drop(file);
     fs::rename(rt, &beside.name, path)?;
     beside.name.clear();
     Ok(())
@@ -186,6 +187,17 @@ fn is_irreplaceable(error: &io::Error) -> bool {
         error.kind(),
         ErrorKind::PermissionDenied | ErrorKind::ReadOnlyFilesystem | ErrorKind::ResourceBusy
     )
+}
+
+/// Puts a result in the place of the plain file with this name, which is at this path, or of nothing.
+fn put_at<R: Files>(rt: &R, alloc: Global, name: &str, path: &str, bytes: &[u8]) -> io::Result<()> {
+    let old = old_file(rt, name)?;
+    let replaced = replace(rt, alloc, path, &old, bytes);
+    let is_refused = matches!(&replaced, Err(error) if is_irreplaceable(error));
+    if old.is_some() && is_refused {
+        return write_in_place(rt, alloc, name, bytes);
+    }
+    replaced
 }
 
 /// A file for a result.
@@ -254,18 +266,6 @@ impl<'r, R: Files> ResultFile<'r, R> {
         Ok(())
     }
 
-    /// Puts what was written in the place of the plain file at this path, or of nothing.
-    fn put_at(&self, path: &str) -> io::Result<()> {
-        let (rt, alloc) = (self.rt, self.alloc);
-        let old = old_file(rt, self.name)?;
-        let replaced = replace(rt, alloc, path, &old, &self.bytes);
-        let is_refused = matches!(&replaced, Err(error) if is_irreplaceable(error));
-        if old.is_some() && is_refused {
-            return write_in_place(rt, alloc, self.name, &self.bytes);
-        }
-        replaced
-    }
-
     /// Notes that memory was refused, if that is the error. Any other error is returned.
     fn note_memory(&mut self, done: io::Result<()>) -> io::Result<()> {
         if matches!(&done, Err(error) if error.kind() == ErrorKind::OutOfMemory) {
@@ -288,7 +288,7 @@ impl<'r, R: Files> ResultFile<'r, R> {
             return Ok(());
         }
         if let Some(path) = &self.path {
-            return self.put_at(path);
+            return put_at(self.rt, self.alloc, self.name, path, &self.bytes);
         }
         if self.file.is_none() {
             self.make_empty()?;

@@ -15,7 +15,7 @@ pub(crate) enum Feedback {
     Asks(InputRequest),
     /// The address that an indirect reference uses.
     Address,
-    /// The same, of a DCA or an ISZ.
+    /// The address that an indirect DCA or ISZ uses.
     StoredIndirectly,
     /// The word that a DCA or an ISZ leaves in the cell that it names.
     Stored,

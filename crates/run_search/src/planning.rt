@@ -138,7 +138,7 @@ impl<A: Allocator + Copy> RunSearch<A> {
         }
     }
 
-    /// The same, and what follows are a few values.
+    /// A run with an input more, or with some of the last ones changed, after which come a few values again and again.
     fn plan_few(&mut self, state: usize) -> Result<Plan<A>, NoMemory> {
         let mut plan = self.plan_other(state)?;
         plan.few = self.dictionary.few(self.alloc, &mut self.random)?;
@@ -208,7 +208,7 @@ impl<A: Allocator + Copy> RunSearch<A> {
         Ok(())
     }
 
-    /// The same as another run, and what follows is one value again and again.
+    /// A run with an input more, or with some of the last ones changed, after which comes one value again and again.
     fn plan_repeated(&mut self, state: usize) -> Result<Plan<A>, NoMemory> {
         let mut plan = self.plan_other(state)?;
         let ask = self.corpus.ask(state);

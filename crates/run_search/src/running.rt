@@ -301,7 +301,7 @@ impl<A: Allocator + Copy> Run<A> {
         }
     }
 
-    /// The same, and up to how many events that is certain then.
+    /// Whether the run goes on, and up to how many events that is certain then.
     #[inline(never)]
     fn still_goes_on(&mut self, watcher: &Watcher<A>) -> Progress {
         let last = self.last_notable();

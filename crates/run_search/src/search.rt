@@ -153,7 +153,7 @@ impl<A: Allocator + Copy> RunSearch<A> {
         })
     }
 
-    /// The same, of a search that records what steps do.
+    /// A search before its first run that records what steps do.
     ///
     /// # Errors
     ///

@@ -241,7 +241,7 @@ impl<A: Allocator + Copy> RunSearch<A> {
         Ok(progress)
     }
 
-    /// The same, and records what the step does, if it is made.
+    /// Makes a step, and records what it does, if it is made.
     #[inline(never)]
     fn step_recorded<D: Allocator>(
         &mut self,
@@ -329,7 +329,7 @@ impl<A: Allocator + Copy> RunSearch<A> {
         }
     }
 
-    /// The same of what is declared to hold at the return that comes next.
+    /// Notes how far what is declared to hold at the return that comes next is from being false.
     fn note_return<D: Allocator>(
         &mut self,
         declaration: &Declaration<D>,

@@ -1,11 +1,10 @@
 -- A piece that goes out front by front.
 use Rattle.std.proofs.Common.{◌≡◌, ◌∙◌, ap, refl, ℕ, ◌+◌, ◌-◌, ◌≤◌, List, ◌++◌, length, take, drop, arith, append_assoc, length-append, Bool, false, ◌||◌, ◌&&◌}
-use Rattle.std.specs.Prelude.{Option, Some, None, ◌==◌, Result, Ok, Err, OnErr}
+use Rattle.std.specs.Prelude.{Option, Some, None, ◌==◌}
 use Rattle.std.specs.Io.KnownBytes.{Appends}
 use Rattle.std.proofs.lemmas.List.{take_all, length-drop}
 use Rattle.std.proofs.lemmas.Bool.{ne_eqb}
 use Rattle.std.proofs.Math.Seq.{take-add, take-append-add}
-use Rattle.streams.specs.declared.bytes.Failed.{Failed}
 use Rattle.streams.specs.Bytes.{AppendsFront}
 
 pub rest_is : (piece : List ℕ) (done : ℕ) → take (length piece - done) (drop done piece) ≡ drop done piece
@@ -35,7 +34,3 @@ front_after a b c first second whole front = record {
   within = let e = length-append first second in let f = front.within in omega (arith, e, f);
   out = rw (take-append-add first second front.count) (appends_both a b c first (take front.count second) whole front.out);
 }
-
-pub front_if : (r : Result Unit Failed) (a b c : Option (List ℕ)) (first second : List ℕ) → Appends a b first → OnErr r (AppendsFront b c second) → OnErr r (AppendsFront a c (first ++ second))
-front_if (Ok x) a b c first second whole front = tt
-front_if (Err e) a b c first second whole front = front_after a b c first second whole front

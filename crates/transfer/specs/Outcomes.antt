@@ -35,7 +35,7 @@ is_alive OfSums p ac changed g = has_some p
 is_alive OfEquations p ac changed g =
     has_some p && (has_some ac && (has_some (g.set Ac) && (has_some g.mq && (has_link g.link && has_some changed))))
 
--- The same of a step from the fact f to the fact g.
+-- A step from the fact f to the fact g may come about.
 abbrev pub alive : Place → Words → Fact → Words → Fact → Bool
 alive pl p f changed g = is_alive pl.rules p (ac_of pl f) changed g
 

@@ -71,7 +71,7 @@ fn increment(relation: &mut Relation) -> bool
     !names(&Location::Accumulator, &relation.sum)
 }
 
-/// The same, where a word of group 1 has CMA; else the relation stays as it is.
+/// What a relation becomes by CMA, where a word of group 1 has it; else the relation stays as it is.
 fn complement_if(word: Word, relation: &mut Relation) -> bool
     requires { length (relation_of relation.old).sum < 4 }
     ensures { if_stays result (relation_of relation.new) ≡
@@ -241,7 +241,7 @@ fn images_from(word: Word, set: &WordSet, before: Link, link: Link) -> WordSet
     found
 }
 
-/// The same, where CLA makes one of all accumulators.
+/// What a word of group 1 makes of some accumulators with one link: with CLA all of them become one before.
 fn images_by(word: Word, set: &WordSet, before: Link, link: Link) -> WordSet
     ensures { words result ≡ images_from word link (words set.now) before }
 {
@@ -251,7 +251,7 @@ fn images_by(word: Word, set: &WordSet, before: Link, link: Link) -> WordSet
     images_from(word, set, before, link)
 }
 
-/// The same, where it is chosen, and else no word.
+/// What a word of group 1 makes of some accumulators with one link, where that is chosen, and else no word.
 fn images_if(chosen: bool, word: Word, set: &WordSet, before: Link, link: Link) -> WordSet
     ensures { (v : ℕ) → words result v ≡ (chosen && images_from word link (words set.now) before v) }
 {

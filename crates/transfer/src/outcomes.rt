@@ -131,7 +131,7 @@ impl FactOutcome {
         self.targets.set_one(next);
     }
 
-    /// The same, where it is chosen and comes about.
+    /// Lets the run go on at an address with the fact that stands here, where that is chosen and comes about.
     pub fn go_to_if(&mut self, chosen: bool, comes: bool, next: Word)
         ensures { outcome_in self.new ≡
             given (chosen && comes) (said.Goes (one next) (fact_in_code self.old.fact)) }

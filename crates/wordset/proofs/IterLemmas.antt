@@ -20,10 +20,6 @@ pub record Passed (p : ℕ → Type 0) (set : Words) (it : Iter) : Type 0 where
 pub none_yet : {p : ℕ → Type 0} {lanes : List ℕ} {made it : Iter} → GoesFrom lanes 0 made → it ≡ made → Passed p (words lanes) it
 none_yet {made = made} begins is = record { same = ap (λ (i : Iter). words i.set.now) is ∙ ap (λ l. words l) begins.set; passed = λ w h has. absurd (omega (arith, h, ap (λ (i : Iter). i.next) is, begins.next)) }
 
--- The same where the set is no variable of the loop's: it's that of the iterator when the loop begins.
-pub none_begun : {p : ℕ → Type 0} {lanes : List ℕ} {made it : Iter} → GoesFrom lanes 0 made → it ≡ made → Passed p (words it.set.now) it
-none_begun begins is = record { same = refl; passed = λ w h has. absurd (omega (arith, h, ap (λ (i : Iter). i.next) is, begins.next)) }
-
 pub of_set : {p : ℕ → Type 0} {lanes : List ℕ} {made begun it : Iter} → GoesFrom lanes 0 made → begun ≡ made → Passed p (words begun.set.now) it → Passed p (words lanes) it
 of_set {p} {it = it} begins is passed = subst (λ s. Passed p s it) (ap (λ (i : Iter). words i.set.now) is ∙ ap (λ l. words l) begins.set) passed
 

@@ -76,9 +76,6 @@ more_yes n a t p q before has is = is ∙ swap p (t n) ∙ ap (λ r. t n || r) b
     swap false true = refl
     swap false false = refl
 
-pub more_no : (n : ℕ) (a t : ℕ → Bool) (p : Bool) → p ≡ some_below n (λ x. a x && t x) → a n ≡ false → p ≡ some_below (n + 1) (λ x. a x && t x)
-more_no n a t p before has = before ∙ ap (λ b. (b && t n) || some_below n (λ x. a x && t x)) (sym has) ∙ sym (some_more n (λ x. a x && t x))
-
 -- the two numbers below 2
 pub some_of_two : (test : ℕ → Bool) → some_below 2 test ≡ (test 0 || test 1)
 unfolding some_below

@@ -1,5 +1,5 @@
 -- One bit of the words of a set: the steps by which the bitwise operations are made.
-use Rattle.std.specs.Prelude.{ℕ, ◌+◌, ◌-◌, ◌/◌, ◌^◌, ◌==◌, if◌then◌else◌, Bool, not, ◌&&◌, ◌||◌, bit_and, bit_or}
+use Rattle.std.specs.Prelude.{ℕ, ◌+◌, ◌-◌, ◌^◌, ◌==◌, if◌then◌else◌, not, ◌&&◌, ◌||◌, bit_and, bit_or}
 use Rattle.std.specs.Int.{bit_at}
 use Rattle.wordset.specs.Words.{Words, plus, minus, some_below}
 
@@ -30,11 +30,3 @@ ors_with x b v = some_below 4096 (λ y. b y && (bit_or x y == v))
 -- All x and b, bit by bit, for one x and the words b of a set.
 abbrev pub ands_with : ℕ → Words → Words
 ands_with x b v = some_below 4096 (λ y. b y && (bit_and x y == v))
-
--- All x or m, bit by bit, for one x and the parts m of the mask.
-abbrev pub ors_of_parts : ℕ → ℕ → Words
-ors_of_parts mask x v = some_below 4096 (λ m. (bit_and m mask == m) && (bit_or x m == v))
-
--- Some sum of one x and a word b of a set comes with the carry k.
-abbrev pub has_sum_carrying : ℕ → Words → ℕ → Bool
-has_sum_carrying x b k = some_below 4096 (λ y. b y && ((x + y) / 4096 == k))

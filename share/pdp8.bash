@@ -32,21 +32,21 @@ _pdp8() {
             COMPREPLY=($(compgen -W "$commands" -- "$word"))
             return
             ;;
-        verify) options='--source --start --profile --steps --seed --save --force --why --help' ;;
-        assemble) options='--output --profile --why --help' ;;
-        list) options='--cross --profile --why --help' ;;
-        source) options='--output --start --declaration --profile --force --why --help' ;;
-        dump) options='--source --full --profile --why --help' ;;
-        run) options='--source --start --steps --trace --trace-long --profile --events --reader --punch --keys --mark --teletype --switches --until --until-write --until-read --last --show --why --help' ;;
-        teletype) options='--source --start --profile --reader --punch --switches --mark --raw --interrupt --until --until-write --until-read --last --show --why --help' ;;
-        watch) options='--source --reader --keys --mark --switches --steps --continue --until --until-write --until-read --last --show --why --help' ;;
-        check) options='--source --why --help' ;;
-        report) options='--output --source --text --why --help' ;;
-        guess) options='--output --source --certificate --report --why --help' ;;
-        refute) options='--output --source --steps --seed --why --help' ;;
-        declare) options='--output --source --from --start --reads --tight --exits --profile --why --help' ;;
-        place) options='--output --declaration --why --help' ;;
-        migrate) options='--output --certificate --declaration --why --help' ;;
+        verify) options='--source --start --profile --steps --seed --save --force --why --no-why --help' ;;
+        assemble) options='--output --profile --why --no-why --help' ;;
+        list) options='--cross --profile --why --no-why --help' ;;
+        source) options='--output --start --declaration --profile --force --why --no-why --help' ;;
+        dump) options='--source --full --profile --why --no-why --help' ;;
+        run) options='--source --start --steps --trace --trace-long --profile --events --reader --punch --keys --mark --teletype --switches --until --until-write --until-read --last --show --why --no-why --help' ;;
+        teletype) options='--source --start --profile --reader --punch --switches --mark --raw --interrupt --until --until-write --until-read --last --show --why --no-why --help' ;;
+        watch) options='--source --reader --keys --mark --switches --steps --continue --until --until-write --until-read --last --show --why --no-why --help' ;;
+        check) options='--source --why --no-why --help' ;;
+        report) options='--output --source --text --why --no-why --help' ;;
+        guess) options='--output --source --certificate --report --why --no-why --help' ;;
+        refute) options='--output --source --steps --seed --why --no-why --help' ;;
+        declare) options='--output --source --from --start --reads --tight --exits --profile --why --no-why --help' ;;
+        place) options='--output --declaration --why --no-why --help' ;;
+        migrate) options='--output --certificate --declaration --why --no-why --help' ;;
         explain) options='--help' ;;
     esac
     if [[ $word == -* ]]; then

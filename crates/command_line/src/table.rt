@@ -44,6 +44,13 @@ pub(crate) struct Argument {
 /// The options that have a short name as well.
 const SHORT_NAMES: [(&str, char); 2] = [("output", 'o'), ("why", 'w')];
 
+/// The option of each command that has `--why`.
+const NO_WHY: Argument = Argument {
+    name: "no-why",
+    form: Form::Flag,
+    help: "writes the lines of --why at a terminal only if --why is given",
+};
+
 /// A command.
 #[derive(Clone, Copy)]
 pub(crate) struct Entry {
@@ -109,6 +116,9 @@ impl Entry {
             .after_help(self.after_help);
         for argument in self.arguments {
             command = command.arg(argument.built(alloc)?)?;
+        }
+        if self.arguments.iter().any(|argument| argument.name == "why") {
+            command = command.arg(NO_WHY.built(alloc)?)?;
         }
         Ok(command)
     }

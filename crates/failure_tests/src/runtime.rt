@@ -8,7 +8,7 @@ use std::fmt::Display;
 use std::fs::{Metadata, OpenFile, OpenOptions};
 use std::io::{self, BufRead, ErrorKind, Lines, Read, Seek, SeekFrom, Write};
 use std::rt::{Env, Files};
-use workbench::exit_status;
+use workbench::{Terminals, exit_status};
 
 /// The contents of standard input: a source with HLT at 0200.
 static INPUT: &[u8] = b"*200\nHLT\n$\n";
@@ -312,7 +312,13 @@ pub fn run_program(alloc: Global, words: &str, rooms: OutputLimits) -> ProgramRe
         words,
         pages: &pages,
     };
-    let status = exit_status(&runtime, false);
+    let status = exit_status(
+        &runtime,
+        &Terminals {
+            reads: false,
+            writes: false,
+        },
+    );
     let OutputBuffers {
         printed,
         told,

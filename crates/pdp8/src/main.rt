@@ -4,6 +4,7 @@
 use std::fs;
 use std::io::IsTerminal;
 use std::process::ExitCode;
+use workbench::{Terminals, exit_status};
 
 /// What is opened in place of a standard stream that is closed. It can be neither read nor written, so each use of that
 /// stream fails, and no file that is opened later is taken for the stream.
@@ -15,6 +16,9 @@ fn main(rt: HostRuntime) -> ExitCode {
         fs::open(&rt, NO_STREAM),
         fs::open(&rt, NO_STREAM),
     ];
-    let at_terminal = rt.reader().is_terminal();
-    ExitCode::from(workbench::exit_status(&rt, at_terminal))
+    let terminals = Terminals {
+        reads: rt.reader().is_terminal(),
+        writes: rt.stdout().is_terminal() && rt.stderr().is_terminal(),
+    };
+    ExitCode::from(exit_status(&rt, &terminals))
 }

@@ -144,9 +144,9 @@ fn undeclarable_lines(alloc: Global, fault: DeclarationFault) -> String {
     text
 }
 
-/// The lines that are printed below the line of a fault. If a file cannot be read or written, they name it. For any
-/// other fault there are lines only if it is to be explained: where in its file the fault lies and what is allowed
-/// there, or what the fault means and what to do.
+/// The lines that are printed below the line of a fault, if it is to be explained. If a file cannot be read or written,
+/// they name it. For any other fault they say where in its file it lies and what is allowed there, or what it means and
+/// what to do.
 #[inline(never)]
 pub fn fault_lines<R: Files + Input>(
     rt: &R,
@@ -155,9 +155,9 @@ pub fn fault_lines<R: Files + Input>(
     files: &CommandFiles<'_, '_>,
 ) -> String {
     match fault {
+        _ if !files.explained => String::new(alloc),
         Fault::Device(DeviceFault::Read) => unread_line(rt, alloc, files),
         Fault::Device(DeviceFault::Write) => unwritten_line(rt, alloc, &files.names),
-        _ if !files.explained => String::new(alloc),
         Fault::Guess(GuessFault::TurnsSpent) => advice(alloc, "TurnsSpent"),
         Fault::Declare(ProposeFault::Undeclarable(fault)) => undeclarable_lines(alloc, *fault),
         Fault::Declare(ProposeFault::Mismatch) => advice(alloc, "Mismatch"),

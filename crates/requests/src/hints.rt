@@ -86,8 +86,8 @@ pub(crate) fn hint(alloc: Global, wanted: Kind, name: &str, bytes: &[u8]) -> Str
     text
 }
 
-/// The line about an input that was given in place of one of another kind. It is empty if there is nothing to say, and
-/// if the input cannot be read twice.
+/// The line about an input that was given in place of one of another kind, if a fault is to be explained. It is empty if
+/// there is nothing to say, and if the input cannot be read twice.
 #[inline(never)]
 pub fn hint_line<R: Files + Input>(
     rt: &R,
@@ -98,7 +98,7 @@ pub fn hint_line<R: Files + Input>(
     let Some((wanted, name)) = files.faulty(fault) else {
         return String::new(alloc);
     };
-    if is_read_once(rt, name) {
+    if !files.explained || is_read_once(rt, name) {
         return String::new(alloc);
     }
     match bytes_of(rt, alloc, name) {

@@ -37,10 +37,17 @@ fn report_kept_file<R: Eprint>(rt: &R, alloc: Global, path: &str) -> Status {
     Status::Usage
 }
 
-/// Reports the fault of a file that cannot be written, and returns the status of the fault.
-fn report_unwritten<R: Files + Eprint>(rt: &R, alloc: Global, fault: Fault, path: &str) -> Status {
+/// Reports the fault of a file that cannot be written and, if it is to be explained, names the file. Returns the status of
+/// the fault.
+fn report_unwritten<R: Files + Eprint>(
+    rt: &R,
+    alloc: Global,
+    fault: Fault,
+    path: &str,
+    explained: bool,
+) -> Status {
     let status = tell(rt, fault);
-    if status == Status::Device {
+    if explained && status == Status::Device {
         tell_lines(rt, &unwritten_file(rt, alloc, path));
     }
     status
@@ -69,6 +76,7 @@ fn save_all<R: Files + Input + Print + Eprint>(
     save: &Option<SaveOptions<'_>>,
     saved: &[NamedText],
     status: Status,
+    explained: bool,
 ) -> Status {
     let forced = save.is_some_and(|options| options.forced);
     for (index, text) in saved.iter().enumerate() {
@@ -83,7 +91,7 @@ fn save_all<R: Files + Input + Print + Eprint>(
         }
         let out = Destination::MadeLast(text.path.as_str());
         if let Err(fault) = write_result(rt, alloc, out, &text.text) {
-            return report_unwritten(rt, alloc, fault, &text.path);
+            return report_unwritten(rt, alloc, fault, &text.path, explained);
         }
     }
     status
@@ -128,7 +136,8 @@ fn texts_to_save(
 
 /// Prints an answer as this text and, if that is requested, saves the evidence for it, and the declaration if it was
 /// proposed. A yes is printed only once these files are written, and not at all if one of them cannot be; any other
-/// answer is printed first. Returns the status of the answer, or of the problem with a file.
+/// answer is printed first. Returns the status of the answer, or of the problem with a file, which is named if faults are to
+/// be explained.
 ///
 /// # Errors
 ///
@@ -140,6 +149,7 @@ pub fn print_and_save<R: Files + Input + Print + Eprint>(
     proposed: Option<&[u8]>,
     answer: &Answer<Global>,
     lines: &[u8],
+    explained: bool,
 ) -> Result<Status, Fault> {
     let saved = match save {
         Some(options) => texts_to_save(alloc, options.name, proposed, answer)?,
@@ -149,9 +159,9 @@ pub fn print_and_save<R: Files + Input + Print + Eprint>(
     let mut out = StdWriter::new(io::writer(rt));
     if status != Status::Done {
         put(&mut out, lines)?;
-        return Ok(save_all(rt, alloc, save, &saved, status));
+        return Ok(save_all(rt, alloc, save, &saved, status, explained));
     }
-    let after = save_all(rt, alloc, save, &saved, status);
+    let after = save_all(rt, alloc, save, &saved, status, explained);
     if after == Status::Done {
         put(&mut out, lines)?;
     }

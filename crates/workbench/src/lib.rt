@@ -3,4 +3,4 @@
 
 mod program;
 
-pub use program::exit_status;
+pub use program::{Terminals, exit_status};

@@ -35,6 +35,14 @@ static RUN_STANDARD_INPUT: [&str; 3] = ["pdp8", "run", "-"];
 /// What is said if nothing is requested and a person would have to type a tape.
 const WAITING: &str = "pdp8 waits for a tape on standard input; pdp8 help lists the commands\n";
 
+/// Which standard streams are terminals.
+pub struct Terminals {
+    /// Whether standard input is one.
+    pub reads: bool,
+    /// Whether standard output and standard error are.
+    pub writes: bool,
+}
+
 /// Carries out the program's arguments, and returns its exit status: 0 done, 1 refused, 2 a misused command line, 3 a
 /// failed device, 4 memory refused. Without arguments, it runs the tape on standard input. Faults and misuse go to
 /// standard error, and help goes to standard output; if standard error fails, the status stays the same. There are
@@ -42,12 +50,13 @@ const WAITING: &str = "pdp8 waits for a tape on standard input; pdp8 help lists 
 /// output, also go to standard error, and if that fails, the status is 3.
 ///
 /// If standard input is a terminal, it says that it waits for a tape if there are no arguments, and says which key ends
-/// a session at the teletype.
+/// a session at the teletype. If standard output and standard error are terminals, the lines of `--why` are written too,
+/// unless `--no-why` is given.
 ///
 /// It is proved that the status is at most 4; everything else that is said here is tested.
 pub fn exit_status<R: Env + Files + Input + Print + Eprint + AllocGlobal>(
     rt: &R,
-    at_terminal: bool,
+    terminals: &Terminals,
 ) -> u8
     ensures { result ≤ 4 }
 {
@@ -63,7 +72,7 @@ pub fn exit_status<R: Env + Files + Input + Print + Eprint + AllocGlobal>(
         return tell(rt, Fault::NoMemory).code();
     };
     let request = if given.len() < 2 {
-        if at_terminal {
+        if terminals.reads {
             tell_lines(rt, WAITING);
         }
         parse_arguments(alloc, RUN_STANDARD_INPUT.as_slice())
@@ -71,8 +80,40 @@ pub fn exit_status<R: Env + Files + Input + Print + Eprint + AllocGlobal>(
         parse_arguments(alloc, given.as_slice())
     };
     match request {
-        Ok(line) => carry_out(rt, alloc, &line, at_terminal).code(),
+        Ok(line) if terminals.writes && may_add_why(&given) => {
+            carry_out_explained(rt, alloc, &line, &given, terminals.reads).code()
+        }
+        Ok(line) => carry_out(rt, alloc, &line, terminals.reads).code(),
         Err(refused) => refuse_shown(rt, alloc, refused, &given).code(),
+    }
+}
+
+/// Whether `--why` may be added to these words: neither `--no-why` nor `--` is one of them, and there is a command.
+fn may_add_why(given: &[String]) -> bool {
+    let is_excluded = given
+        .iter()
+        .any(|word| matches!(word.as_str(), "--no-why" | "--"));
+    given.len() > 1 && !is_excluded
+}
+
+/// Carries out the command line of these words, with `--why` added if the command has that option and it is not given.
+#[inline(never)]
+fn carry_out_explained<R: Files + Input + Print + Eprint>(
+    rt: &R,
+    alloc: Global,
+    line: &CommandLine<'_>,
+    given: &[String],
+    at_terminal: bool,
+) -> Status {
+    let Ok(mut words) = name_slices(alloc, given) else {
+        return tell(rt, Fault::NoMemory);
+    };
+    if words.push("--why").is_err() {
+        return tell(rt, Fault::NoMemory);
+    }
+    match parse_arguments(alloc, words.as_slice()) {
+        Ok(explained) => carry_out(rt, alloc, &explained, at_terminal),
+        Err(_) => carry_out(rt, alloc, line, at_terminal),
     }
 }
 

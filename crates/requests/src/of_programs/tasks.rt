@@ -76,7 +76,15 @@ impl<R: Files + Input + Print + Eprint, I: Read + Drop> OpenProgram<'_, '_, R, I
         let found = verify_message(alloc, &image, &declaration, &options.search)?;
         let details = answer_details(alloc, &image, &declaration, &found)?;
         let lines = answer_text(alloc, source, &found.line, &details)?;
-        print_and_save(rt, alloc, save, None, &found.answer, &lines)
+        print_and_save(
+            rt,
+            alloc,
+            save,
+            None,
+            &found.answer,
+            &lines,
+            options.search.explained,
+        )
     }
 
     /// Says whether the program complies with the declaration that is proposed for it and, on standard error, that the
@@ -96,7 +104,15 @@ impl<R: Files + Input + Print + Eprint, I: Read + Drop> OpenProgram<'_, '_, R, I
             report_proposed_declaration(rt, &source.given.parts);
         }
         let text = Some(found.proposed.text.as_slice());
-        let status = print_and_save(rt, alloc, save, text, &found.proposed.answer, &lines)?;
+        let status = print_and_save(
+            rt,
+            alloc,
+            save,
+            text,
+            &found.proposed.answer,
+            &lines,
+            options.search.explained,
+        )?;
         if source.is_none() && save.is_none() {
             let _ = eprintln!(rt;
                 "the answer is about a proposed declaration; --save NAME saves that declaration"

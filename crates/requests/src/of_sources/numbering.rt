@@ -100,14 +100,14 @@ fn report_place_fault<R: Eprint>(
             writeln!(lines, "{description}")
         };
         tell_lines(rt, &lines);
-    }
-    if let Some(name) = files.names.declaration {
-        tell_lines(rt, &hint(alloc, Kind::Declaration, name, text));
+        if let Some(name) = files.names.declaration {
+            tell_lines(rt, &hint(alloc, Kind::Declaration, name, text));
+        }
     }
     Ok(Status::Refused)
 }
 
-/// Reports the fault of a source and, if that is requested, what is wrong below its line, and whether a file of another
+/// Reports the fault of a source and, if that is requested, below its line what is wrong, and whether a file of another
 /// kind was given in its place.
 fn report_refused_source<R: Eprint>(
     rt: &R,
@@ -118,9 +118,10 @@ fn report_refused_source<R: Eprint>(
     text: &[u8],
 ) -> Status {
     let names = files.parts;
-    let status = if !files.explained {
-        tell(rt, Fault::Source(fault))
-    } else if fault.line == 0 {
+    if !files.explained {
+        return tell(rt, Fault::Source(fault));
+    }
+    let status = if fault.line == 0 {
         report_size_fault(rt, alloc, fault, names)
     } else {
         let mut lines = String::new(alloc);

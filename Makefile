@@ -68,6 +68,7 @@ install: run
 	    echo "Another $(PROGRAM) is on the path: $$other. make install PROGRAM=name gives this one another name."
 	install -D -m 755 $(BUILT) $(PREFIX)/bin/$(PROGRAM)
 	install -D -m 644 share/pdp8.1 $(PREFIX)/share/man/man1/$(PROGRAM).1
+	install -D -m 755 share/pdp8-teletype $(PREFIX)/bin/$(PROGRAM)-teletype
 	sed '$$s/pdp8$$/$(PROGRAM)/' share/pdp8.bash | \
 	    install -D -m 644 /dev/stdin $(PREFIX)/share/bash-completion/completions/$(PROGRAM)
 
@@ -75,7 +76,7 @@ install: run
 dist: run
 	rm -rf $(DIST) && mkdir -p $(DIST)/bin $(DIST)/share
 	cp $(BUILT) $(DIST)/bin/pdp8
-	cp share/pdp8.1 share/pdp8.bash $(DIST)/share/
+	cp share/pdp8.1 share/pdp8.bash share/pdp8-teletype $(DIST)/share/
 	cp -r README.md CHANGELOG.md docs examples $(DIST)/
 	tar czf $(DIST).tar.gz $(DIST) && rm -rf $(DIST)
 	@echo "$(DIST).tar.gz"

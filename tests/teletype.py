@@ -107,7 +107,7 @@ ECHOING = [
     (('B', 'C'), ['ABC']),
 ]
 # ^E is the key that interrupts, and a line says so first.
-TOLD = '^E ends the session when the program asks for a key'
+TOLD = '^E ends the session when the program asks for a key; if the terminal delivers lines, press RETURN after it'
 INTERRUPTING = [
     ((), [TOLD]),
     (('A',), [TOLD, 'A']),
@@ -115,8 +115,8 @@ INTERRUPTING = [
 ]
 # Another key, or none.
 TELLING = [
-    ((), ['^X ends the session when the program asks for a key']),
-    (('C-x',), ['^X ends the session when the program asks for a key', '', 'INTERRUPTED 0203 AC=0000 L=0 PC=0203 STEPS=3', 'OVER']),
+    ((), ['^X ends the session when the program asks for a key; if the terminal delivers lines, press RETURN after it']),
+    (('C-x',), ['^X ends the session when the program asks for a key; if the terminal delivers lines, press RETURN after it', '', 'INTERRUPTED 0203 AC=0000 L=0 PC=0203 STEPS=3', 'OVER']),
 ]
 # A session of a source is stopped when the routine that types is reached for the second time, so the second key is not typed. The lines of
         # the last instructions begin on a line of their own.

@@ -170,6 +170,9 @@ fn interrupt_key(interrupt: Interrupt, at_terminal: bool) -> Option<u8> {
     }
 }
 
+/// What is said behind the key that interrupts a session, since a terminal usually delivers a line at a time.
+static LINES_NEED_RETURN: &str = "; if the terminal delivers lines, press RETURN after it";
+
 /// Says on standard error which key interrupts the session, if one does.
 fn report_interrupt_key<R: Eprint>(rt: &R, key: Option<u8>) {
     let Some(byte) = key else {
@@ -177,9 +180,13 @@ fn report_interrupt_key<R: Eprint>(rt: &R, key: Option<u8>) {
     };
     let written = if byte < 0o40 {
         let letter = char::from(byte + 0o100);
-        eprintln!(rt; "^{letter} ends the session when the program asks for a key")
+        eprintln!(rt;
+            "^{letter} ends the session when the program asks for a key{LINES_NEED_RETURN}"
+        )
     } else {
-        eprintln!(rt; "key {byte:03o} ends the session when the program asks for a key")
+        eprintln!(rt;
+            "key {byte:03o} ends the session when the program asks for a key{LINES_NEED_RETURN}"
+        )
     };
     match written {
         Ok(()) | Err(_) => {}

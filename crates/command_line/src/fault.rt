@@ -133,13 +133,13 @@ impl Misuse {
             Misuse::NotText =>
                 "an argument is not text in UTF-8: rename the file, or give it on standard input",
             Misuse::Place(PlaceOption::Show) =>
-                "bad value for '--show': expected octal addresses and ranges, such as 0324 0400-0417",
+                "bad value for '--show': expected octal addresses and ranges, such as 0324 0400-0417; a symbol needs --source",
             Misuse::Place(PlaceOption::Until) =>
-                "bad value for '--until': expected an octal address such as 0233; a comma and a number from 1 to 1000000 may follow it, as in 0233,4",
+                "bad value for '--until': expected an octal address such as 0233; a comma and a number from 1 to 1000000 may follow it, as in 0233,4; a symbol needs --source",
             Misuse::Place(PlaceOption::UntilWrite) =>
-                "bad value for '--until-write': expected octal addresses and ranges, such as 0324 0400-0417",
+                "bad value for '--until-write': expected octal addresses and ranges, such as 0324 0400-0417; a symbol needs --source",
             Misuse::Place(PlaceOption::UntilRead) =>
-                "bad value for '--until-read': expected octal addresses and ranges, such as 0324 0400-0417",
+                "bad value for '--until-read': expected octal addresses and ranges, such as 0324 0400-0417; a symbol needs --source",
             Misuse::PlaceOfSource(PlaceOption::Show) =>
                 "bad value for '--show': expected addresses and ranges, in octal or by symbols that the source defines, such as COUNT LIST-LIST+17",
             Misuse::PlaceOfSource(PlaceOption::Until) =>

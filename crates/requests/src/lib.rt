@@ -12,6 +12,7 @@ pub mod of_files;
 pub mod of_machine;
 pub mod of_programs;
 mod of_sources;
+mod operator_part;
 pub mod replacing;
 pub mod saving;
 pub mod source_faults;

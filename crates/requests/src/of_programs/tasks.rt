@@ -9,6 +9,7 @@ use crate::of_programs::open::OpenProgram;
 use crate::of_sources::assembled::AssembledSource;
 use crate::of_sources::proposed::report_proposed_declaration;
 use crate::of_sources::source_lines::answer_text;
+use crate::operator_part::push_run;
 use crate::saving::print_and_save;
 use crate::standard_error::open_input_if;
 use crate::stuck::answer_details;
@@ -49,6 +50,11 @@ fn watch_options<'s>(
     }
 }
 
+/// The name under which what is found is saved, if it is.
+fn saved_name<'a>(save: &Option<SaveOptions<'a>>) -> Option<&'a str> {
+    save.as_ref().map(|options| options.name)
+}
+
 impl<R: Files + Input + Print + Eprint, I: Read + Drop> OpenProgram<'_, '_, R, I> {
     /// Writes the line of an answer and the details below it to standard output, the details with what the source, if
     /// there is one, says about their addresses.
@@ -74,7 +80,15 @@ impl<R: Files + Input + Print + Eprint, I: Read + Drop> OpenProgram<'_, '_, R, I
         let source = self.labels(options.search.explained);
         let ProgramWithDeclaration { image, declaration } = self.read()?;
         let found = verify_message(alloc, &image, &declaration, &options.search)?;
-        let details = answer_details(alloc, &image, &declaration, &found)?;
+        let mut details = answer_details(alloc, &image, &declaration, &found)?;
+        push_run(
+            alloc,
+            &mut details,
+            self.files,
+            &found.answer,
+            saved_name(save),
+            false,
+        )?;
         let lines = answer_text(alloc, source, &found.line, &details)?;
         print_and_save(
             rt,
@@ -99,7 +113,18 @@ impl<R: Files + Input + Print + Eprint, I: Read + Drop> OpenProgram<'_, '_, R, I
         let labels = self.labels(options.search.explained);
         let image = self.read_tape()?;
         let found = verify_proposed_message(alloc, &image, options)?;
-        let lines = answer_text(alloc, labels, &found.line, &found.why)?;
+        let mut details = Message::new(alloc);
+        details.push_message(&found.why)?;
+        let answer = &found.proposed.answer;
+        push_run(
+            alloc,
+            &mut details,
+            self.files,
+            answer,
+            saved_name(save),
+            true,
+        )?;
+        let lines = answer_text(alloc, labels, &found.line, &details)?;
         if let Some(source) = source {
             report_proposed_declaration(rt, &source.given.parts);
         }

@@ -38,7 +38,8 @@ SUMMARY = re.compile(r'(HALT|UNSUPPORTED|BOUND) [0-7]{4} AC=[0-7]{4} L=[01] PC=[
 DUMP = re.compile(r'([0-7]{4} [0-7]{4} [A-Z0-9 ?]+\n)*')
 WATCH = re.compile(r'clean\n|broken: event \d+ rule [1-8]\n')
 REFUTED = re.compile(r'not broken in 20000 steps\n|broken: event \d+ rule [1-8]\n')
-CHECK = re.compile(r'yes: \d+ body cells, \d+ variable cells, \d+ entries, \d+ halts(, \d+ read cells)?(, \d+ assertions)?\n|no: V\d+ at [0-7]{4}\n')
+CHECK = re.compile(r'yes: \d+ body cells, \d+ variable cells, \d+ entries, \d+ halts(, \d+ read cells)?(, \d+ assertions)?'
+                   r'(, \d+ abandon places?)?(, \d+ moved returns?)?(, \d+ skips?)?\n|no: V\d+ at [0-7]{4}\n')
 DECLARED = re.compile(r'(/ [^\n]*\n)*(profile 8e\n)?start [0-7]{4}\n([a-z]+( [^\n]*)?\n)+')
 # What follows the line of a fault of a source under --why: the same fault with its column.
 WHY = re.compile(r'\Apdp8: source: (?P<code>..) 1 (?P<line>\d+)\npal:(?P=line):\d+: (?P=code): ')

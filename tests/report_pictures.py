@@ -34,7 +34,7 @@ def main():
             browse(f"--screenshot={folder / f'{name}-{size}.png'}", f"--window-size={width},{height}", page.as_uri())
         browse(f"--print-to-pdf={folder / f'{name}.pdf'}", "--no-pdf-header-footer", page.as_uri())
         if name == "hello":
-            browse(f"--screenshot={folder / 'report.png'}", "--force-device-scale-factor=0.68", "--window-size=1080,2780", page.as_uri())
+            browse(f"--screenshot={folder / 'report.png'}", "--force-device-scale-factor=0.68", "--window-size=1080,2400", page.as_uri())
         print(*sorted(path.name for path in folder.glob(f"{name}[.-]*")))
 
 

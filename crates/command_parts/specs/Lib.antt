@@ -2,7 +2,6 @@ pub mod Writes
 pub mod Inputs
 pub mod Faults
 pub mod Statuses
-pub mod LinkText
 pub mod Dumping
 pub mod Messages
 pub mod Answers

@@ -48,7 +48,7 @@ pub fn push_cells<A: Allocator>(
     push_cells_ending(text, kind, set, b"\n")
 }
 
-/// The same, where each line has this end.
+/// Adds lines of a kind with the ranges of a set, each with this end, if the set has a word.
 pub fn push_cells_ending<A: Allocator>(
     text: &mut Vec<u8, A>,
     kind: &[u8],

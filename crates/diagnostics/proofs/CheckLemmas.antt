@@ -1,8 +1,8 @@
 -- What `check` reads and counts.
 use Rattle.std.proofs.Common.{ℕ, suc, ◌+◌, length, map, arith, ◌≡◌, ◌<◌, ◌==◌, ◌&&◌, ◌||◌, ◌⊎◌, ◌∷◌, ◌++◌, [], Bool, true, false, List, Option, Some, None, refl, sym, ◌∙◌, ap, inl, inr}
 use Rattle.std.specs.Cmp.{both_ways}
-use Rattle.std.specs.Prelude.{decimal, IfSome, OnOk, MatchResult, Result, Ok, Err}
-use Rattle.std.proofs.lemmas.Bool.{true≢false, and_from, eq-eqb, or_left, or_right}
+use Rattle.std.specs.Prelude.{decimal, nat_lt, IfSome, OnOk, MatchResult, Result, Ok, Err}
+use Rattle.std.proofs.lemmas.Bool.{true≢false, and_from, cases_lt, eq-eqb, le-ltb, lt-ltb, or_left, or_right}
 use Rattle.wordset.specs.Words.{Words, SameWords, some_below}
 use Rattle.policy.specs.Runs.{IsSafe}
 use Rattle.judge.specs.Landing.{Case}
@@ -11,7 +11,7 @@ use Rattle.judge.specs.declared.judging.Refusal.{Refusal}
 use Rattle.diagnostics.specs.CheckText.{counted, IsVerdict}
 use Rattle.wordset.specs.Lanes.{words}
 use Rattle.wordset.proofs.Counts.{how_many_same}
-use Rattle.wordset.proofs.Tests.{some_from, some_to}
+use Rattle.wordset.proofs.Tests.{some_from, some_none_of, some_to}
 use Rattle.declaration.specs.declared.Routine.{Routine}
 use Rattle.declaration.specs.DeclarationInCode.{bodies, entries, in_routines}
 use Rattle.certificate_lines.specs.declared.CertificateFault.{CertificateFault}
@@ -122,3 +122,16 @@ lines_counted f g xs ys hs rs m n count other is same =
     let c : length (map f xs) ≡ length hs = ap length is in
     let d : length (map g ys) ≡ length rs = ap length same in
     omega (arith, a, b, c, d, count, other)
+
+-- ---- offsets above 7
+
+-- there is none
+pub none_above : (offsets : Words) → ((o : ℕ) → 7 < o → o < 64 → offsets o ≡ false) → some_below 64 (λ o. nat_lt 7 o && offsets o) ≡ false
+none_above offsets none = some_none_of 64 (λ o. nat_lt 7 o && offsets o) (λ o small. elim (cases_lt 7 o) [
+  | inl h ↦ rw (lt-ltb 7 o h) (none o h small)
+  | inr h ↦ rw (le-ltb 7 o h) refl
+])
+
+-- there is this one
+pub one_above : (offsets : Words) (o : ℕ) → 7 < o → o < 64 → offsets o ≡ true → some_below 64 (λ k. nat_lt 7 k && offsets k) ≡ true
+one_above offsets o high small is = some_from 64 (λ k. nat_lt 7 k && offsets k) o small (rw (lt-ltb 7 o high) is)

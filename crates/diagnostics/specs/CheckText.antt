@@ -1,5 +1,5 @@
 -- What `check` writes.
-use Rattle.std.specs.Prelude.{ℕ, ◌≡◌, ◌+◌, ◌==◌, ◌||◌, ◌++◌, if◌then◌else◌, codes, decimal, length, List, [], Option, Some, None, Result, Ok, Err}
+use Rattle.std.specs.Prelude.{ℕ, ◌≡◌, ◌+◌, ◌==◌, nat_lt, ◌&&◌, ◌||◌, ◌++◌, if◌then◌else◌, codes, decimal, length, List, [], Option, Some, None, Result, Ok, Err}
 use Rattle.word12.specs.Words.{octal_text}
 use Rattle.wordset.specs.Words.{Words, some_below, how_many}
 use Rattle.peripherals.specs.Loading.{image_of}
@@ -51,16 +51,28 @@ abbrev pub reads_text : Option Words → List ℕ
 reads_text None = []
 reads_text (Some cells) = codes ", " ++ counted cells (codes " read cells")
 
--- Where something is declared to hold, how many lines declare it.
-abbrev pub assertions_text : ℕ → List ℕ
-assertions_text n = if n == 0 then [] else codes ", " ++ decimal n ++ codes " assertions"
+-- How many there are of something, after a comma, with its name for one and for more; nothing if there are none.
+abbrev pub more_text : ℕ → List ℕ → List ℕ → List ℕ
+more_text n one more = if n == 0 then [] else codes ", " ++ decimal n ++ (if n == 1 then one else more)
+
+-- The routine of this entry may return by an offset above 7, which no `sub` line declares.
+abbrev pub is_skipping : Declaration → Words
+is_skipping d e = d.entry e && some_below 64 (λ o. nat_lt 7 o && d.offset e o)
+
+-- What a declaration allows that takes lines of its own: for how many addresses calls may be abandoned, how many routines may
+-- store their return word, and how many may return by an offset above 7.
+abbrev pub widened_text : Declaration → List ℕ
+widened_text d =
+    more_text (how_many 4096 d.abandon) (codes " abandon place") (codes " abandon places") ++
+    more_text (how_many 4096 d.moves) (codes " moved return") (codes " moved returns") ++
+    more_text (how_many 4096 (is_skipping d)) (codes " skip") (codes " skips")
 
 -- The line of a program that is safe.
 abbrev pub yes_text : Declaration → List ℕ
 yes_text d =
     codes "yes: " ++ counted (in_bodies d) (codes " body cells, ") ++ counted d.variable (codes " variable cells, ") ++
     counted d.entry (codes " entries, ") ++ counted (is_halt d) (codes " halts") ++ reads_text d.reads ++
-    assertions_text (length d.holds + length d.returns) ++ codes "\n"
+    more_text (length d.holds + length d.returns) (codes " assertions") (codes " assertions") ++ widened_text d ++ codes "\n"
 
 -- The line of a condition that fails at an address.
 abbrev pub no_text : Refusal → List ℕ
@@ -81,8 +93,8 @@ abbrev pub IsVerdict : Case → Result (Unit {0}) Refusal → Type 0
 IsVerdict j (Ok _) = IsYes j
 IsVerdict j (Err r) = IsFirst j r.condition r.address
 
--- The line of a verdict: a yes with how many cells, entries, halts and assertions are declared, or a no with the condition that
--- fails and its address.
+-- The line of a verdict: a yes with how many cells, entries, halts and assertions are declared and with what widens the
+-- declaration, or a no with the condition that fails and its address.
 abbrev pub verdict_text : Declaration → Result (Unit {0}) Refusal → List ℕ
 verdict_text d (Ok _) = yes_text d
 verdict_text d (Err r) = no_text r

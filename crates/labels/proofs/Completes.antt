@@ -34,8 +34,8 @@ module _ (parts : List (List ℕ)) (text shown : List ℕ) (declared : Declared 
       let Q : Profile → Type 0 = λ p. HasWords (permanent_symbols p) parts symbols words in
       record { symbols = symbols; image = image; means = subst P (e ∙ ap machine same) means; has = subst Q (e ∙ ap machine same) has }
 
-  pub with_words : (profile : Profile) (symbols : List (Name × ℕ)) (image : List (Option ℕ)) (mapped words : List PlacedWord) → profile ≡ machine shown → Means (permanent_symbols profile) parts symbols image → HasWords (permanent_symbols profile) parts symbols mapped → words ≡ mapped
+  pub with_words : (profile : Profile) (symbols : List (Name × ℕ)) (image : List (Option ℕ)) (found words : List PlacedWord) → profile ≡ machine shown → Means (permanent_symbols profile) parts symbols image → HasWords (permanent_symbols profile) parts symbols found → words ≡ found
       → (all : List ℕ) → Declared words 1 parts all → DeclaredWithin parts all
-  with_words profile symbols image mapped words e means has is all h =
+  with_words profile symbols image found words e means has is all h =
       let P : List PlacedWord → Type 0 = λ w. Declared w 1 parts all in
-      completed text all mapped declared (has_words profile symbols image mapped e means has) (subst P is h)
+      completed text all found declared (has_words profile symbols image found e means has) (subst P is h)

@@ -5,7 +5,7 @@ ghost use Rattle.bin_tape.specs.Image.{IsEmptyImage};
 ghost use Rattle.bin_tape.specs.Written.{written_tape};
 ghost use Rattle.pal_acts.specs.Permanent.{permanent_symbols};
 ghost use Rattle.pal_asm.specs.Sources.{texts, Means};
-ghost use Rattle.pal_asm.specs.Programs.{symbols_in, image_in, mapped_symbols, mapped_image};
+ghost use Rattle.pal_asm.specs.Programs.{symbols_in, image_in, symbols_of, image_of};
 ghost use Rattle.labels.specs.Within.{machine};
 ghost use Rattle.labels.specs.Programs.{IsEmptyFault, IsNumbered, IsNumberingFault, IsSourceFault, placing_fault};
 
@@ -13,19 +13,19 @@ use crate::fault::PlaceFault;
 use crate::placing::place;
 use crate::within::machine_of;
 use bin_tape::{Image, WriteTapeFault, write_tape};
-use pal_asm::{AssembleFault, PalFault, SourceMap, Translation, map_source, translate};
+use pal_asm::{AssembleFault, PalFault, Program, Translation, assemble, translate};
 use std::alloc::Allocator;
 use streams::{ByteSink, Failed};
 
-/// A program's tape, its declaration in numbers, and the source with its lines.
+/// A program's tape, its declaration in numbers, and what its source means, with its listing.
 #[derive(Drop)]
 pub struct NumberedProgram<A: Allocator + Copy> {
     /// The tape's frames.
     pub tape: Vec<u8, A>,
     /// The declaration's text.
     pub declaration: Vec<u8, A>,
-    /// What the source says of each word.
-    pub map: SourceMap<A>,
+    /// What the source means.
+    pub program: Program<A>,
 }
 
 /// Why a source and its declaration are refused.
@@ -107,19 +107,19 @@ pub(crate) fn translation_of<A: Allocator + Copy>(
     }
 }
 
-/// The same with the source's lines.
-fn mapped<A: Allocator + Copy>(
+/// The same with a listing.
+fn program_of<A: Allocator + Copy>(
     alloc: A,
     parts: &[&[u8]],
     declaration: &[u8],
-) -> Result<SourceMap<A>, NumberingFault>
-    ensures means { IfOk result (λ map. Means
+) -> Result<Program<A>, NumberingFault>
+    ensures means { IfOk result (λ program. Means
         (permanent_symbols (machine declaration.now)) (texts parts.now)
-        (mapped_symbols map) (mapped_image map)) }
+        (symbols_of program) (image_of program)) }
     ensures refused { IfErr result (IsSourceFault (machine declaration.now) (texts parts.now)) }
 {
-    match map_source(alloc, parts, machine_of(declaration)) {
-        Ok(map) => Ok(map),
+    match assemble(alloc, parts, machine_of(declaration)) {
+        Ok(program) => Ok(program),
         Err(AssembleFault::Source(fault)) => Err(NumberingFault::Source(fault)),
         Err(AssembleFault::NoMemory) => Err(NumberingFault::NoMemory),
     }
@@ -145,13 +145,13 @@ fn numbered_of<A: Allocator + Copy>(
         numbered.tape.items numbered.declaration.items) }
     ensures refused { IfErr result (IsNumberingFault (texts parts.now) declaration.now) }
 {
-    let map = mapped(alloc, parts, declaration)?;
-    let tape = tape_of(alloc, map.image())?;
-    match place(alloc, declaration, map.symbols()) {
+    let program = program_of(alloc, parts, declaration)?;
+    let tape = tape_of(alloc, program.image())?;
+    match place(alloc, declaration, program.symbols()) {
         Ok(declaration) => Ok(NumberedProgram {
             tape,
             declaration,
-            map,
+            program,
         }),
         Err(fault) => Err(placing_fault(fault)),
     }

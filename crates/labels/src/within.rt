@@ -12,8 +12,7 @@ ghost use Rattle.labels.specs.Within.{Adds, Declared, DeclaredWithin, after_colo
 use crate::located::{address_on, lacks_some, push_located};
 use instruct::Profile;
 use pal_acts::{PlacedWord, SourcePlace};
-use pal_asm::{AssembleFault, map_source};
-use pal_text::characters::is_character_code;
+use pal_asm::{AssembleFault, assemble, push_characters};
 use pal_text::{Ending, Line, TextFault, statements};
 use std::alloc::{AllocError, Allocator};
 use streams::text::{self, Lines, Words};
@@ -47,19 +46,6 @@ pub fn machine_of(declaration: &[u8]) -> Profile
         }
     }
     Profile::Pdp8I
-}
-
-/// Adds the characters of some bytes.
-fn push_characters<A: Allocator>(text: &mut Vec<u8, A>, bytes: &[u8]) -> Result<(), AllocError>
-    ensures { OnOk result (text.new.items ≡ text.old.items ++ characters bytes.now) }
-{
-    for byte in bytes {
-        let code = *byte % 0o200;
-        if is_character_code(code) {
-            text.push(code)?;
-        }
-    }
-    Ok(())
 }
 
 /// The first place of a slash in a source's line.
@@ -239,8 +225,8 @@ pub fn declaration_within<A: Allocator + Copy>(
     if !lacks_some(&text) {
         return Ok(text);
     }
-    match map_source(alloc, parts, machine_of(&text)) {
-        Ok(map) => lines_with(alloc, parts, map.words()),
+    match assemble(alloc, parts, machine_of(&text)) {
+        Ok(program) => lines_with(alloc, parts, program.words()),
         Err(AssembleFault::Source(_)) => Ok(text),
         Err(AssembleFault::NoMemory) => Err(AllocError),
     }

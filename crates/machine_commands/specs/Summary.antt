@@ -3,13 +3,13 @@ use Rattle.std.specs.Prelude.{ℕ, Bool, true, false, ◌+◌, ◌/◌, ◌%◌,
 use Rattle.std.specs.Borrow.{Bor}
 use Rattle.std.proofs.Common.{zero, suc}
 use Rattle.word12.specs.Words.{octal_text}
-use Rattle.command_parts.specs.LinkText.{link_text}
 use Rattle.command_parts.specs.declared.options.SummaryForm.{SummaryForm}
 use Rattle.processor.specs.Cells.{Cells}
 use Rattle.processor.specs.Machine.{State}
 use Rattle.peripherals.specs.Devices.{WorldState}
 use Rattle.machine_commands.specs.declared.follow.End.{End}
 use Rattle.machine_commands.specs.declared.follow.End.TheVariants.{Halted, Unsupported, Bound, Stopped, Interrupted}
+use Rattle.machine_commands.specs.Trace.{link_text}
 
 -- How a run ended and where: stuck at an unsupported word, halted by the HLT at this address, at its bound, stopped as asked, or interrupted by
 -- a key.

@@ -1,5 +1,5 @@
 -- The trace of a run: a line for each instruction that was carried out.
-use Rattle.std.specs.Prelude.{ℕ, Bool, true, false, if◌then◌else◌, List, [], ◌++◌, codes}
+use Rattle.std.specs.Prelude.{ℕ, ◌+◌, Bool, true, false, if◌then◌else◌, List, [], ◌∷◌, ◌++◌, codes}
 use Rattle.word12.specs.Words.{octal_text}
 use Rattle.instruct.specs.declared.Profile.{Profile}
 use Rattle.instruct.specs.declared.Profile.TheVariants.{Pdp8I, Pdp8E}
@@ -10,7 +10,6 @@ use Rattle.peripherals.specs.declared.Seen.{Seen}
 use Rattle.peripherals.specs.declared.Seen.TheVariants.{Ran, Halted}
 use Rattle.peripherals.specs.Devices.{WorldState, word_at_pc}
 use Rattle.peripherals.specs.EventOutcomes.{seen_of}
-use Rattle.command_parts.specs.LinkText.{link_text}
 
 -- The address, the word there and its name.
 abbrev pub place_text : Profile → ℕ → ℕ → List ℕ
@@ -20,6 +19,10 @@ place_text profile at word = octal_text at ++ codes " " ++ octal_text word ++ co
 abbrev pub mq_text : Profile → ℕ → List ℕ
 mq_text Pdp8I mq = []
 mq_text Pdp8E mq = codes " MQ=" ++ octal_text mq
+
+-- A link as the digit 0 or 1.
+abbrev pub link_text : ℕ → List ℕ
+link_text link = (48 + link) ∷ []
 
 -- The accumulator, the link and the MQ register.
 abbrev pub effect_text : Profile → State → List ℕ

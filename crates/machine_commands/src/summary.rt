@@ -5,8 +5,8 @@ ghost use Rattle.wordset.specs.Lanes.{words};
 ghost use Rattle.processor.specs.Cells.{cell_of};
 ghost use Rattle.processor.specs.Steps.{state_of};
 ghost use Rattle.peripherals.specs.World.{view};
-ghost use Rattle.command_parts.specs.LinkText.{link_text};
 ghost use Rattle.machine_commands.specs.Session.{character, leaves_open, parting, summary_where};
+ghost use Rattle.machine_commands.specs.Trace.{link_text};
 ghost use Rattle.machine_commands.specs.Summary.{end_text, registers_text, state_line, byte_text, bytes_text, output_line, cell_line, cells_below, cells_text, closing, closing_as, frames_word, printed_line, punched_line, saved_line, summary_as};
 
 use crate::follow::{End, RunOutcome};

@@ -5,8 +5,7 @@ ghost use Rattle.std.specs.Io.KnownBytes.{Appends};
 ghost use Rattle.streams.specs.Bytes.{AppendsFront};
 ghost use Rattle.word12.specs.Words.{octal_text};
 ghost use Rattle.processor.specs.Steps.{state_of};
-ghost use Rattle.command_parts.specs.LinkText.{link_text};
-ghost use Rattle.machine_commands.specs.Trace.{effect_text, line_of, mq_text, place_text, trace_line};
+ghost use Rattle.machine_commands.specs.Trace.{effect_text, line_of, link_text, mq_text, place_text, trace_line};
 
 use arrayvec::ArrayString;
 use instruct::{Profile, name};

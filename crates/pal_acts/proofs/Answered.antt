@@ -13,7 +13,6 @@ use Rattle.pal_acts.specs.Meaning.{location, next_taken, Defines, nothing, one_m
 use Rattle.pal_acts.specs.Words.{word_of}
 use Rattle.pal_acts.specs.Sources.{Encodes, words, last_at, IsImage, IsSource}
 use Rattle.pal_acts.specs.Faults.{Stops, Finds, IsRefused}
-use Rattle.pal_acts.specs.Laws.{EachSourceIsAnswered}
 
 -- acts that were gone through, the newest first, and those that are left
 gone_all : {X : Type 0} (acts before : List X) → acts ≡ reverse before ++ [] → before ≡ reverse acts
@@ -78,7 +77,7 @@ image_there ws =
     )
 
 module _ (perm : List (Name × ℕ)) (limit : ℕ) (acts : List PlacedAct) where
-  abbrev Answers : Type 0
+  abbrev pub Answers : Type 0
   Answers = ((own : List (Name × ℕ)) × (image : List (Option ℕ)) × IsSource perm limit acts own image) ⊎ ((place : SourcePlace) × (code : FaultCode) × IsRefused perm limit acts place code)
 
   with_words : (own : List (Name × ℕ)) → Defines perm limit (reverse acts) own → EncodedOrNot (known perm own) acts → Answers
@@ -91,5 +90,5 @@ module _ (perm : List (Name × ℕ)) (limit : ℕ) (acts : List PlacedAct) where
   with_symbols (inl r) = with_words r.0 r.1 (encoded (known perm r.0) acts [] acts refl tt)
   with_symbols (inr r) = inr (r.0, r.1, inl r.2)
 
-pub each_source_is_answered : EachSourceIsAnswered
+pub each_source_is_answered : (perm : List (Name × ℕ)) (limit : ℕ) (acts : List PlacedAct) → Answers perm limit acts
 each_source_is_answered perm limit acts = with_symbols perm limit acts (defined perm limit acts [] acts [] refl nothing)

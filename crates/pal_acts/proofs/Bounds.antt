@@ -3,6 +3,7 @@ use Rattle.std.proofs.Common.{◌≡◌, ◌∙◌, sym, ap, ℕ, ◌/◌, ◌%�
 use Rattle.std.specs.Prelude.{reverse, nat_lt, nat_eq, unwrap_or, ok_or, not, ◌&&◌, codes}
 use Rattle.std.specs.List.{AllByRecursion, list_all}
 use Rattle.std.specs.Option.{option_and_then}
+use Rattle.std.specs.Map.{lookup}
 use Rattle.std.proofs.lemmas.Bool.{cases_Bool, cases_lt, ltb-true, cond_both}
 use Rattle.std.proofs.lemmas.Nat.{or_lt}
 use Rattle.std.proofs.lemmas.Option.{slice_get_past}
@@ -21,12 +22,11 @@ use Rattle.pal_acts.specs.declared.act.PlacedWord.{PlacedWord}
 use Rattle.pal_acts.specs.declared.fault_code.FaultCode.{FaultCode}
 use Rattle.pal_acts.specs.declared.fault_code.FaultCode.TheVariants.{Undefined}
 use Rattle.pal_acts.specs.Acts.{PlacedAct}
-use Rattle.pal_acts.specs.Values.{same, Values, term_value, joined, value_after, value, needed}
+use Rattle.pal_acts.specs.Values.{same, Values, known, term_value, joined, value_after, value, needed}
 use Rattle.pal_acts.specs.Meaning.{location_after, location, Defines, nothing, one_more}
 use Rattle.pal_acts.specs.Words.{Marked, named, references, is_one_of, is_mark, marks_after, marks, addressed, reference, word_value, word_of}
-use Rattle.pal_acts.proofs.Table.{in_table}
-use Rattle.pal_acts.proofs.Faulted.{giving_table, assign_table, after, took}
 use Rattle.pal_acts.specs.Sources.{with_word, words, last_at, IsSource}
+use Rattle.pal_acts.proofs.Grown.{Grown, as_before, with_one, taken_grown}
 
 -- a word, or nothing
 abbrev pub Below : Option ℕ → Type 0
@@ -65,7 +65,7 @@ entries_append : (t u : List (Name × ℕ)) → Entries t → Entries u → Entr
 entries_append [] u h k = k
 entries_append (e ∷ t) u h k = (h.0, entries_append t u h.1 k)
 
-table_below : (t : List (Name × ℕ)) → Entries t → (n : Name) → Below (in_table t n)
+table_below : (t : List (Name × ℕ)) → Entries t → (n : Name) → Below (lookup (same n) t)
 table_below [] h n = tt
 table_below (e ∷ t) h n = elim (cases_Bool (same n e.0)) [
   | inl is ↦ rw is h.0
@@ -182,38 +182,30 @@ last_below (w ∷ before) at all = cond_both (nat_eq w.at at) _ _ Below (λ is. 
 
 -- ---- symbols
 
-given_below : (own : List (Name × ℕ)) (n : Name) (o : Option ℕ) (v : ℕ) → Entries own → v < 4096 → Entries (giving_table own n o v)
-given_below own n None v h k = entries_append own ((n, v) ∷ []) h (k, tt)
-given_below own n (Some w) v h k = h
+grown_below : (own new : List (Name × ℕ)) → Entries own → Grown (λ v. v < 4096) own new → Entries new
+grown_below own new h as_before = h
+grown_below own all h (with_one n v lt) = entries_append own ((n, v) ∷ []) h (lt, tt)
 
-assigned_below : (perm : List (Name × ℕ)) (limit : ℕ) (own : List (Name × ℕ)) (n : Name) (o : Option ℕ) → Entries own → Below o → Entries (assign_table perm limit own n o)
-assigned_below perm limit own n None h k = h
-assigned_below perm limit own n (Some v) h k = given_below own n (in_table (perm ++ own) n) v h k
-
-symbols_after : (perm : List (Name × ℕ)) (limit : ℕ) (own : List (Name × ℕ)) (here : ℕ) (e : List SignedTerm) (a : Act) → Entries perm → Entries own → here < 4096 → Numbers e → Entries (after perm limit own here e a)
-symbols_after perm limit own here e (act.Tag n) p h k all = given_below own n (in_table (perm ++ own) n) here h k
-symbols_after perm limit own here e (act.Assign n) p h k all =
-    assigned_below perm limit own n (value (in_table (perm ++ own)) here e) h (value_below (in_table (perm ++ own)) (table_below (perm ++ own) (entries_append perm own p h)) here 0 e k (omega arith) all)
-symbols_after perm limit own here e _ p h k all = h
+below_some : (o : Option ℕ) (v : ℕ) → Below o → o ≡ Some v → v < 4096
+below_some o v h e = subst Below e h
 
 -- the symbols of acts are words
 symbols_below : (perm : List (Name × ℕ)) (limit : ℕ) (acts : List PlacedAct) (own : List (Name × ℕ)) → Entries perm → AllByRecursion HasNumbers acts → Defines perm limit acts own → Entries own
 symbols_below perm limit acts own p all nothing = tt
 symbols_below perm limit acts after p all (one_more before next own new d e) =
     let old : Entries own = symbols_below perm limit before own p all.1 d in
-    let σ : Values = in_table (perm ++ own) in
-    let here : location σ before < 4096 = location_below σ (table_below (perm ++ own) (entries_append perm own p old)) before all.1 in
-    subst Entries (sym (took perm limit own (location σ before) next.terms next.act new e).1) (symbols_after perm limit own (location σ before) next.terms next.act p old here all.0)
-
-below_some : (o : Option ℕ) (v : ℕ) → Below o → o ≡ Some v → v < 4096
-below_some o v h e = subst Below e h
+    let σ : Values = known perm own in
+    let given : (n : Name) → Below (σ n) = table_below (perm ++ own) (entries_append perm own p old) in
+    let here : location σ before < 4096 = location_below σ given before all.1 in
+    grown_below own new old (taken_grown (λ v. v < 4096) limit own perm (location σ before) next.terms here
+    (λ v h. below_some (value σ (location σ before) next.terms) v (value_below σ given (location σ before) 0 next.terms here (omega arith) all.0) h) next.act new e)
 
 -- the image of a source holds words
 pub holds_words : (perm : List (Name × ℕ)) (limit : ℕ) (acts : List PlacedAct) (own : List (Name × ℕ)) (image : List (Option ℕ)) → Entries perm → AllByRecursion HasNumbers acts → IsSource perm limit acts own image → HoldsWords image
 holds_words perm limit acts own image p all s =
     let turned : AllByRecursion HasNumbers (reverse acts) = all_reverse HasNumbers acts all in
     let entries : Entries (perm ++ own) = entries_append perm own p (symbols_below perm limit (reverse acts) own p turned s.defines) in
-    let cells : (a : ℕ) → a < 4096 → Below (word_at image a) = λ a lt. subst Below (sym (s.image_is.cells a lt)) (last_below (words (in_table (perm ++ own)) (reverse acts)) a (words_below (in_table (perm ++ own)) (table_below (perm ++ own) entries) (reverse acts) turned)) in
+    let cells : (a : ℕ) → a < 4096 → Below (word_at image a) = λ a lt. subst Below (sym (s.image_is.cells a lt)) (last_below (words (known perm own) (reverse acts)) a (words_below (known perm own) (table_below (perm ++ own) entries) (reverse acts) turned)) in
     record {
       size = s.image_is.size;
       words = λ a v e. elim (cases_lt a 4096) [

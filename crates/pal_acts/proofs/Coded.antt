@@ -11,7 +11,7 @@ use Rattle.pal_acts.specs.declared.assembly.ActsFault.{ActsFault}
 use Rattle.pal_acts.specs.declared.assembly.ActsFault.TheVariants.{Fault, NoMemory}
 use Rattle.pal_acts.specs.declared.fault_code.FaultCode.{FaultCode}
 use Rattle.pal_acts.specs.Words.{word_of}
-use Rattle.pal_acts.specs.Steps.{Codes, BreaksKeeping, FindsKeeping}
+use Rattle.pal_acts.specs.Steps.{Codes, BreaksBy, FindsBy}
 use Rattle.pal_acts.proofs.Places.{split_at}
 
 -- words, and one more
@@ -50,9 +50,9 @@ module _ (σ : Values) (here : ℕ) (next : PlacedAct) (before : List PlacedAct)
       by None = sym (append-nil (reverse (words σ before)))
       by (Some w) = reverse-append (w ∷ []) (words σ before)
 
--- an act that isn't kept is the first fault of a word, or memory was refused for it
+-- an act that is not kept is the first fault of a word, or memory was refused
 pub stops_keeping : (σ : Values) (acts : List PlacedAct) (at : ℕ) (next : PlacedAct) (here : ℕ) → at < length acts → slice_get acts at ≡ Some next → here ≡ location σ (reverse (take at acts))
-    → Encodes σ (reverse (take at acts)) → (r : ActsFault) → BreaksKeeping σ here next r → FindsKeeping σ acts r
+    → Encodes σ (reverse (take at acts)) → (r : ActsFault) → BreaksBy σ here next r → FindsBy σ acts r
 stops_keeping σ acts at next here within stands is fine (Fault place code) h = record {
   earlier = reverse (take at acts);
   next = next;
@@ -60,10 +60,4 @@ stops_keeping σ acts at next here within stands is fine (Fault place code) h = 
   parts = split_at acts at next within stands;
   such = (h.0, fine, subst (λ l. word_of σ l next.terms next.act ≡ Some (Err code)) is h.1);
 }
-stops_keeping σ acts at next here within stands is fine NoMemory h = record {
-  earlier = reverse (take at acts);
-  next = next;
-  later = drop (at + 1) acts;
-  parts = split_at acts at next within stands;
-  such = (fine, (h.0, subst (λ l. word_of σ l next.terms next.act ≡ Some (Ok h.0)) is h.1));
-}
+stops_keeping σ acts at next here within stands is fine NoMemory h = tt

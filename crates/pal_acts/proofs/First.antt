@@ -1,5 +1,5 @@
 -- A source has one meaning or one fault.
-use Rattle.std.proofs.Common.{◌≡◌, ◌∙◌, sym, ap, refl, ℕ, List, [], ◌∷◌, ◌++◌, append_assoc, Some, inl, inr, subst, ◌⊎◌}
+use Rattle.std.proofs.Common.{◌≡◌, ◌∙◌, sym, ap, refl, ℕ, List, [], ◌∷◌, ◌++◌, append_assoc, Option, Some, inl, inr, subst, ◌⊎◌}
 use Rattle.std.specs.Prelude.{reverse, Result, Ok, Err}
 use Rattle.std.proofs.lemmas.List.{reverse-append, reverse-reverse}
 use Rattle.pal_text.specs.declared.names.Name.{Name}
@@ -9,9 +9,8 @@ use Rattle.pal_acts.specs.Acts.{PlacedAct}
 use Rattle.pal_acts.specs.Values.{Values, known}
 use Rattle.pal_acts.specs.Meaning.{location, next_taken, Defines}
 use Rattle.pal_acts.specs.Words.{word_of}
-use Rattle.pal_acts.specs.Sources.{Encodes, words, IsImage}
-use Rattle.pal_acts.specs.Faults.{Stops, Finds}
-use Rattle.pal_acts.specs.Laws.{OneSource, NotBoth, OneFault}
+use Rattle.pal_acts.specs.Sources.{Encodes, words, IsImage, IsSource}
+use Rattle.pal_acts.specs.Faults.{Stops, Finds, IsRefused}
 use Rattle.pal_acts.proofs.Defined.{Came, came, unique}
 use Rattle.pal_acts.proofs.Images.{one_image}
 
@@ -120,18 +119,21 @@ module _ (σ : Values) where
       let r = first (Encodes σ) IsWordFine Breaks words_back words_apart words_one acts h.earlier k.earlier h.later k.later h.next k.next c d h.such.1 k.such.1 h.parts k.parts h.such.2 k.such.2 in
       (h.such.0 ∙ ap (λ a. a.place) r.0 ∙ sym k.such.0, r.1)
 
-pub one_source : OneSource
+pub one_source : (perm : List (Name × ℕ)) (limit : ℕ) (acts : List PlacedAct) (s u : List (Name × ℕ)) (i j : List (Option ℕ))
+    → IsSource perm limit acts s i → IsSource perm limit acts u j → (s ≡ u) × (i ≡ j)
 one_source perm limit acts s u i j h k =
     let e : s ≡ u = unique perm limit (reverse acts) s u h.defines k.defines in
     (e, one_image (words (known perm u) (reverse acts)) i j (subst (λ s. IsImage (words (known perm s) (reverse acts)) i) e h.image_is) k.image_is)
 
-pub not_both : NotBoth
+pub not_both : (perm : List (Name × ℕ)) (limit : ℕ) (acts : List PlacedAct) (s : List (Name × ℕ)) (i : List (Option ℕ)) (at : SourcePlace) (c : FaultCode)
+    → IsSource perm limit acts s i → IsRefused perm limit acts at c → ⊥
 not_both perm limit acts s i at c h (inl k) = stops_never perm limit acts at c s h.defines k
 not_both perm limit acts s i at c h (inr k) =
     let e : k.0 ≡ s = unique perm limit (reverse acts) k.0 s k.1 h.defines in
     finds_never (known perm s) acts at c h.encodes (subst (λ s. Finds (known perm s) acts at c) e k.2)
 
-pub one_fault : OneFault
+pub one_fault : (perm : List (Name × ℕ)) (limit : ℕ) (acts : List PlacedAct) (at au : SourcePlace) (c d : FaultCode)
+    → IsRefused perm limit acts at c → IsRefused perm limit acts au d → (at ≡ au) × (c ≡ d)
 one_fault perm limit acts at au c d (inl h) (inl k) = stops_one perm limit acts at au c d h k
 one_fault perm limit acts at au c d (inl h) (inr k) = absurd (stops_never perm limit acts at c k.0 k.1 h)
 one_fault perm limit acts at au c d (inr h) (inl k) = absurd (stops_never perm limit acts au d h.0 h.1 k)

@@ -1,6 +1,6 @@
 -- Acts whose expressions lie in one list.
 use Rattle.std.proofs.Common.{◌≡◌, ◌∙◌, ap, sym, refl, subst, ℕ, ◌+◌, ◌-◌, ◌≤◌, List, [], ◌∷◌, ◌++◌, arith, length, take, drop}
-use Rattle.std.specs.Prelude.{slice_range, Result, Ok, Err, OnErr}
+use Rattle.std.specs.Prelude.{slice_range}
 use Rattle.std.specs.List.{AllByRecursion}
 use Rattle.std.proofs.lemmas.List.{take_all, drop_at, drop-append-le, take-append-le, length-append, length-drop, map-append}
 use Rattle.pal_text.proofs.Rises.{all_append}
@@ -27,10 +27,6 @@ kept_acts js more (k ∷ ks) h =
     let rest : acts_in (js ++ more) ks ≡ acts_in js ks = kept_acts js more ks h.1 in
     λ i. placed k.place (one i) k.act ∷ rest i
 
--- the same where more terms were laid after them
-pub kept_longer : (js js' : List SignedTerm) (ks : List StoredAct) → AllByRecursion (LiesWithin (length js)) ks → ((more : List SignedTerm) × (js' ≡ js ++ more)) → acts_in js' ks ≡ acts_in js ks
-kept_longer js js' ks h (more, e) = ap (λ l. acts_in l ks) e ∙ kept_acts js more ks h
-
 pub within_longer : (js js' : List SignedTerm) (ks : List StoredAct) → AllByRecursion (LiesWithin (length js)) ks → ((more : List SignedTerm) × (js' ≡ js ++ more)) → AllByRecursion (LiesWithin (length js')) ks
 within_longer js js' [] h e = tt
 within_longer js js' (k ∷ ks) h (more, e) =
@@ -45,11 +41,6 @@ within_added js e js' ks ks' k h same first last is =
     let size : length js' ≡ length js + length e = ap length same ∙ length-append js e in
     let one : LiesWithin (length js') k = record { forward = omega (arith, first, last, size); inside = omega (arith, last) } in
     subst P (sym is) (all_append (LiesWithin (length js')) ks (k ∷ []) (within_longer js js' ks h (e, same)) (one, tt))
-
--- what holds anyway holds of an error
-pub anyway : {T E : Type 0} {P : Type 0} (r : Result T E) → P → OnErr r P
-anyway (Ok x) p = tt
-anyway (Err e) p = p
 
 -- one act more, whose expression was laid at the end
 pub added : (js e js' : List SignedTerm) (ks : List StoredAct) (k : StoredAct) → AllByRecursion (LiesWithin (length js)) ks → js' ≡ js ++ e → k.span.first ≡ length js → k.span.last ≡ length js'

@@ -1,15 +1,12 @@
-pub mod Faulted
 pub mod Table
 pub mod Flat
-pub mod Agree
+pub mod Grown
 pub mod Places
 pub mod Images
 pub mod Coded
-pub mod Whole
 pub mod Defined
 pub mod First
 pub mod Answered
 pub mod Bounds
-pub mod Told
 pub mod PermanentLemmas
 pub mod Worded

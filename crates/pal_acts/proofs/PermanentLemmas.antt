@@ -4,7 +4,6 @@ use Rattle.indexmap.specs.IndexMap.{insert_all}
 use Rattle.instruct.specs.declared.Profile.TheVariants.{Pdp8I, Pdp8E}
 use Rattle.pal_acts.specs.Values.{same}
 use Rattle.pal_acts.specs.Permanent.{permanent_symbols, common_symbols, further_symbols}
-use Rattle.pal_acts.specs.Laws.{PermanentOnce, ReferencesPermanent}
 
 -- put into a table one after another, they stand there as in the list
 pub put_common : insert_all same [] (permanent_symbols Pdp8I) ≡ permanent_symbols Pdp8I
@@ -14,13 +13,3 @@ put_common = refl
 pub put_all : insert_all same [] (permanent_symbols Pdp8E) ≡ permanent_symbols Pdp8E
 unfolding permanent_symbols common_symbols further_symbols
 put_all = refl
-
-pub once : PermanentOnce
-unfolding permanent_symbols common_symbols further_symbols
-once Pdp8I = refl
-once Pdp8E = refl
-
-pub references_listed : ReferencesPermanent
-unfolding permanent_symbols common_symbols further_symbols
-references_listed Pdp8I = refl
-references_listed Pdp8E = refl

@@ -7,7 +7,7 @@ use Rattle.pal_text.specs.declared.names.Name.{Name}
 use Rattle.pal_acts.specs.Acts.{PlacedAct}
 use Rattle.pal_acts.specs.Values.{known}
 use Rattle.pal_acts.specs.Meaning.{location_after, location, taken, next_taken, Defines, one_more}
-use Rattle.pal_acts.proofs.Defined.{went, whole_of}
+use Rattle.pal_acts.proofs.Grown.{next_extends, act_stays, stays}
 
 some_is : {X : Type 0} (x y : X) → Some x ≡ Some y → x ≡ y
 some_is x y e = cc
@@ -37,5 +37,7 @@ goes_on perm limit before next symbols new here here' c took_it moved =
     let e : next_taken perm limit symbols before next ≡ Ok new = ap (λ l. taken perm limit symbols l next.terms next.act) (sym c.here_is) ∙ took_it in
     record {
       defines = one_more before next symbols new c.defines e;
-      here_is = moved ∙ ap (λ l. location_after (known perm symbols) l next.terms next.act) c.here_is ∙ (went perm limit before next symbols new (whole_of perm limit before symbols c.defines) e).1;
+      here_is = moved ∙ ap (λ l. location_after (known perm symbols) l next.terms next.act) c.here_is
+          ∙ sym (act_stays perm limit symbols new (known perm new) (location (known perm symbols) before) next.terms next.act (next_extends perm limit before next symbols new e) e)
+          ∙ sym (ap (λ l. location_after (known perm new) l next.terms next.act) (stays perm limit before symbols (known perm new) c.defines (next_extends perm limit before next symbols new e)));
     }

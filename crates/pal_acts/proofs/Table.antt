@@ -1,16 +1,10 @@
 -- Looking names up in tables.
-use Rattle.std.proofs.Common.{◌≡◌, ◌∙◌, sym, ap, refl, ℕ, List, [], ◌∷◌, ◌++◌, Bool, Some, None, Option, Ok, is_some, inl, inr, length, ◌<◌, nat_lt, lt-ltb}
-use Rattle.std.specs.List.{list_any}
-use Rattle.std.specs.Map.{lookup, keys_of}
+use Rattle.std.proofs.Common.{◌≡◌, ◌∙◌, sym, ap, refl, ℕ, List, [], ◌∷◌, ◌++◌, Bool, Some, None, Option, Ok, inl, inr, length, ◌<◌, nat_lt, lt-ltb}
+use Rattle.std.specs.Map.{lookup}
 use Rattle.std.proofs.lemmas.Bool.{cases_Bool, cond-true}
 use Rattle.pal_text.specs.declared.names.Name.{Name}
-use Rattle.pal_acts.specs.Values.{Values, same, has}
 use Rattle.pal_acts.specs.declared.fault_code.FaultCode.{FaultCode}
 use Rattle.pal_acts.specs.Meaning.{given}
-
--- the values that a table of names gives: that of a name's first entry
-abbrev pub in_table : List (Name × ℕ) → Values
-in_table table n = lookup (same n) table
 
 -- a name in the first of two tables
 pub lookup-left : {K : Type 0} (test : K → Bool) (xs ys : List (K × ℕ)) (v : ℕ) → lookup test xs ≡ Some v → lookup test (xs ++ ys) ≡ Some v
@@ -29,18 +23,6 @@ lookup-right {K} test (x ∷ xs) ys h =
       | inl is ↦ cc (rw is at h)
       | inr not ↦ rw not (lookup-right test xs ys (rw not at h))
     ]
-
--- the names of a table are those that have a value
-pub is_some-lookup : {K : Type 0} (test : K → Bool) (xs : List (K × ℕ)) → is_some (lookup test xs) ≡ list_any test (keys_of xs)
-is_some-lookup test [] = refl
-is_some-lookup {K} test (x ∷ xs) =
-    elim (cases_Bool (test x.0)) [
-      | inl is ↦ rw is refl
-      | inr not ↦ rw not (is_some-lookup test xs)
-    ]
-
-pub has_lookup : (t : List (Name × ℕ)) (n : Name) (o : Option ℕ) → in_table t n ≡ o → has (keys_of t) n ≡ is_some o
-has_lookup t n o e = sym (is_some-lookup (same n) t) ∙ ap is_some e
 
 pub lookup-none : {K : Type 0} (test : K → Bool) (xs ys : List (K × ℕ)) → lookup test (xs ++ ys) ≡ None → lookup test ys ≡ None
 lookup-none test [] ys h = h

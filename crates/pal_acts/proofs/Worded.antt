@@ -12,8 +12,8 @@ use Rattle.pal_acts.specs.Acts.{PlacedAct}
 use Rattle.pal_acts.specs.Values.{Values, known, term_value, joined, value_after}
 use Rattle.pal_acts.specs.Meaning.{Defines}
 use Rattle.pal_acts.specs.Sources.{Encodes, words, all_words, IsImage, IsSource}
-use Rattle.pal_acts.specs.Faults.{RefusesKeeping}
-use Rattle.pal_acts.specs.Steps.{StopsBy, FindsKeeping}
+use Rattle.pal_acts.specs.Faults.{Refuses}
+use Rattle.pal_acts.specs.Steps.{StopsBy, FindsBy}
 
 -- all acts were looked at
 pub all_encoded : (σ : Values) (acts : List PlacedAct) (at : ℕ) → length acts ≤ at → Encodes σ (reverse (take at acts)) → Encodes σ (reverse acts)
@@ -31,13 +31,13 @@ module _ (perm here own : List (Name × ℕ)) (acts : List PlacedAct) (same : he
       let R : List (Name × ℕ) → Type 0 = λ p. IsImage (words (known p own) (reverse acts)) image in
       record { defines = defines; encodes = subst P same encodes; image_is = subst R same (subst Q back made) }
 
-  pub words_refused : (e : ActsFault) → FindsKeeping (known here own) acts e → RefusesKeeping perm 1024 acts e
-  words_refused (Fault place code) h = inr (own, defines, subst (λ p. FindsKeeping (known p own) acts (Fault place code)) same h)
-  words_refused NoMemory h = inr (own, defines, subst (λ p. FindsKeeping (known p own) acts NoMemory) same h)
+  pub words_refused : (e : ActsFault) → FindsBy (known here own) acts e → Refuses perm 1024 acts e
+  words_refused (Fault place code) h = inr (own, defines, subst (λ p. FindsBy (known p own) acts (Fault place code)) same h)
+  words_refused NoMemory h = tt
 
-pub symbols_refused : (perm : List (Name × ℕ)) (acts : List PlacedAct) (e : ActsFault) → StopsBy perm 1024 acts e → RefusesKeeping perm 1024 acts e
+pub symbols_refused : (perm : List (Name × ℕ)) (acts : List PlacedAct) (e : ActsFault) → StopsBy perm 1024 acts e → Refuses perm 1024 acts e
 symbols_refused perm acts (Fault place code) h = inl h
-symbols_refused perm acts NoMemory h = inl h
+symbols_refused perm acts NoMemory h = tt
 
 -- the value of an expression, one term after another
 pub value_more : (σ : Values) (here a : ℕ) (js : List SignedTerm) (i : ℕ) (j d : SignedTerm) (v new : ℕ) → i < length js → j ≡ get_or js i d → term_value σ here j.term ≡ Some v → new ≡ joined j.sign a v

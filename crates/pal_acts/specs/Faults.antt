@@ -1,5 +1,5 @@
 -- The first fault of a source, at the place of its act.
-use Rattle.std.specs.Prelude.{◌≡◌, ℕ, ◌+◌, List, ◌∷◌, ◌++◌, length, reverse, Some, Ok, Err, ◌⊎◌}
+use Rattle.std.specs.Prelude.{◌≡◌, ℕ, List, ◌∷◌, ◌++◌, reverse, Some, Err, ◌⊎◌}
 use Rattle.pal_text.specs.declared.names.Name.{Name}
 use Rattle.pal_acts.specs.declared.act.SourcePlace.{SourcePlace}
 use Rattle.pal_acts.specs.declared.fault_code.FaultCode.{FaultCode}
@@ -34,22 +34,7 @@ abbrev pub IsRefused : List (Name × ℕ) → ℕ → List PlacedAct → SourceP
 IsRefused permanent limit acts place code = Stops permanent limit acts place code
     ⊎ ((own : List (Name × ℕ)) × Defines permanent limit (reverse acts) own × Finds (known permanent own) acts place code)
 
--- An act asks for memory: those before it have no fault, and it has none and defines a symbol that had no value.
-abbrev pub AsksForMemory : List (Name × ℕ) → ℕ → List PlacedAct → Type 0
-AsksForMemory permanent limit acts = Meets acts (λ before next. (own new : List (Name × ℕ)) × Defines permanent limit before own
-    × (next_taken permanent limit own before next ≡ Ok new) × (length new ≡ length own + 1))
-
--- A source is refused so: by its fault, or where memory is refused at an act that asks for some.
+-- A source is refused so: by its fault, or memory was refused.
 abbrev pub Refuses : List (Name × ℕ) → ℕ → List PlacedAct → ActsFault → Type 0
 Refuses permanent limit acts (Fault place code) = IsRefused permanent limit acts place code
-Refuses permanent limit acts NoMemory = AsksForMemory permanent limit acts
-
--- Memory is requested for an act's word, and the words before it have no fault.
-abbrev pub AsksForWord : Values → List PlacedAct → Type 0
-AsksForWord σ acts = Meets acts (λ before next. Encodes σ before × ((w : ℕ) × (word_of σ (location σ before) next.terms next.act ≡ Some (Ok w))))
-
--- A source of which the words are kept is refused so: by its fault, or where memory is refused at an act that asks for
--- some; and once all symbols have their values, memory is requested for each word before the first one that has a fault.
-abbrev pub RefusesKeeping : List (Name × ℕ) → ℕ → List PlacedAct → ActsFault → Type 0
-RefusesKeeping permanent limit acts (Fault place code) = IsRefused permanent limit acts place code
-RefusesKeeping permanent limit acts NoMemory = AsksForMemory permanent limit acts ⊎ ((own : List (Name × ℕ)) × Defines permanent limit (reverse acts) own × AsksForWord (known permanent own) acts)
+Refuses permanent limit acts NoMemory = Unit {0}

@@ -4,7 +4,6 @@ pub mod Meaning
 pub mod Words
 pub mod Sources
 pub mod Faults
-pub mod Laws
 pub mod ActsInCode
 pub mod Steps
 pub mod Permanent

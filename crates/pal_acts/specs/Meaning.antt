@@ -1,5 +1,4 @@
--- What a source's symbols are. A list of acts has the newest first: what an act means depends on those before it. That a name
--- has one value in the whole source is a law (`SymbolsAreOfTheWhole`).
+-- What a source's symbols are. A list of acts has the newest first: what an act means depends on those before it.
 use Rattle.std.specs.Prelude.{◌≡◌, ℕ, ◌+◌, ◌%◌, nat_lt, nat_eq, if◌then◌else◌, List, [], ◌∷◌, ◌++◌, length, Option, Some, None, Result, Ok, Err, unwrap_or}
 use Rattle.pal_text.specs.declared.names.Name.{Name}
 use Rattle.pal_acts.specs.declared.act.SignedTerm.{SignedTerm}

@@ -1,6 +1,6 @@
 //! What a source does, in order.
 
-ghost use Rattle.std.specs.Prelude.{◌≡◌, ◌<◌, [], ◌∷◌, ◌++◌, OnOk, OnErr, IfOk, Some, List, length, take, slice_get};
+ghost use Rattle.std.specs.Prelude.{◌≡◌, ◌<◌, [], ◌∷◌, ◌++◌, OnOk, IfOk, Some, List, length, take, slice_get};
 ghost use Rattle.pal_acts.specs.declared.act.SignedTerm.{SignedTerm as Joined};
 ghost use Rattle.pal_acts.specs.Acts.{placed, shown};
 
@@ -110,7 +110,7 @@ impl<A: Allocator> Acts<A> {
     ///
     /// # Errors
     ///
-    /// Memory was refused. Then the acts are as they were.
+    /// Memory was refused.
     #[inline(always)]
     pub fn keep(
         &mut self,
@@ -119,7 +119,6 @@ impl<A: Allocator> Acts<A> {
         terms: &[SignedTerm],
     ) -> Result<(), AllocError>
         ensures kept { OnOk result (self.new ≡ self.old ++ placed place terms.now act ∷ []) }
-        ensures same { OnErr result (self.new ≡ self.old) }
     {
         let span = lay(&mut self.terms, terms)?;
         self.list.push(StoredAct { place, act, span })?;

@@ -1,22 +1,22 @@
 //! The meaning of a source, or its first fault.
 
-ghost use Rattle.std.specs.Prelude.{◌≡◌, ◌⊎◌, [], Some, Err, reverse, IfOk, IfErr, OnOk, MatchResult, ℕ, List, Option};
-ghost use Rattle.pal_text.specs.declared.names.Name.{Name as Named};
-ghost use Rattle.pal_acts.specs.declared.act.SourcePlace.{SourcePlace as Placing};
-ghost use Rattle.pal_acts.specs.declared.fault_code.FaultCode.{FaultCode as Coded};
+ghost use Rattle.std.specs.Prelude.{◌≡◌, [], Some, Err, reverse, IfOk, IfErr, OnOk};
 ghost use Rattle.pal_acts.specs.Acts.{shown};
 ghost use Rattle.pal_acts.specs.Values.{known};
 ghost use Rattle.pal_acts.specs.Meaning.{location_after, Defines};
 ghost use Rattle.pal_acts.specs.Words.{word_of};
-ghost use Rattle.pal_acts.specs.Sources.{IsSource, IsImage, Encodes, words, all_words};
-ghost use Rattle.pal_acts.specs.Faults.{Refuses, RefusesKeeping, IsRefused};
-ghost use Rattle.pal_acts.specs.Steps.{StopsBy, FindsBy, FindsKeeping, BreaksKeeping, Codes, Puts, Keeps};
+ghost use Rattle.pal_acts.specs.Permanent.{permanent_symbols};
+ghost use Rattle.pal_acts.specs.Sources.{IsSource, IsImage, Encodes, all_words};
+ghost use Rattle.pal_acts.specs.Faults.{Refuses};
+ghost use Rattle.pal_acts.specs.Steps.{StopsBy, FindsBy, BreaksBy, Codes, Keeps};
 
 use crate::act::{Act, PlacedWord, SourcePlace};
 use crate::acts::{Acts, SourceAct};
 use crate::fault_code::FaultCode;
+use crate::permanent::permanent_table;
 use crate::symbols::{Refusal, SymbolTable, Symbols};
 use bin_tape::Image;
+use instruct::Profile;
 use std::alloc::Allocator;
 use word12::Word;
 
@@ -29,19 +29,35 @@ pub enum ActsFault {
     NoMemory,
 }
 
-/// What a source means: its symbols, and the words that go into memory.
+/// What a source means: its own symbols, its image, and its words.
 #[derive(Drop)]
-pub struct Assembly<'p, A: Allocator + Copy> {
-    pub symbols: Symbols<'p, A>,
-    pub image: Image,
-}
-
-/// The same with each of these words at its place in the source, in order.
-#[derive(Drop)]
-pub struct AssembledWords<'p, A: Allocator + Copy> {
-    pub symbols: Symbols<'p, A>,
+pub struct Translation<A: Allocator + Copy> {
+    pub own: SymbolTable<A>,
     pub image: Image,
     pub words: Vec<PlacedWord, A>,
+}
+
+impl<A: Allocator + Copy> Translation<A> {
+    /// The words of the program, each at its address.
+    pub fn image(&self) -> &Image
+        ensures { result.now ≡ self.now.image }
+    {
+        &self.image
+    }
+
+    /// The symbols that the source defines with their values, in the order of their definition.
+    pub fn symbols(&self) -> &SymbolTable<A>
+        ensures { result.now.entries ≡ self.now.own.entries }
+    {
+        &self.own
+    }
+
+    /// The words with their places, in the order of the source; of several for one address the last one counts.
+    pub fn words(&self) -> &[PlacedWord]
+        ensures { result.now ≡ self.now.words.items }
+    {
+        &self.words
+    }
 }
 
 /// Takes acts one after another into symbols of which there are none yet but the permanent ones.
@@ -121,28 +137,6 @@ fn code<A: Allocator + Copy>(
     }
 }
 
-/// Puts the word of an act, if it has one, into the image.
-fn put<A: Allocator + Copy>(
-    symbols: &Symbols<'_, A>,
-    next: SourceAct<'_>,
-    image: &mut Image,
-    here: &mut Word,
-) -> Result<(), FaultCode>
-    ensures puts { OnOk result (Puts (known symbols.now.permanent.now.entries
-        symbols.now.own.entries) (shown next.entry) image.old here.old image.new here.new) }
-    ensures refused { IfErr result (λ code.
-        word_of (known symbols.now.permanent.now.entries symbols.now.own.entries) here.old
-        next.entry.terms.now next.entry.act ≡ Some (Err code)) }
-{
-    match code(symbols, next, here)? {
-        Some(found) => {
-            image.set(found.at, found.word);
-            Ok(())
-        }
-        None => Ok(()),
-    }
-}
-
 /// Keeps the word of an act, if it has one, after others.
 fn keep<A: Allocator + Copy>(
     symbols: &Symbols<'_, A>,
@@ -153,7 +147,7 @@ fn keep<A: Allocator + Copy>(
     ensures keeps { OnOk result (Keeps (known symbols.now.permanent.now.entries
         symbols.now.own.entries) (shown next.entry) kept.old.items here.old kept.new.items
         here.new) }
-    ensures refused { IfErr result (BreaksKeeping (known symbols.now.permanent.now.entries
+    ensures refused { IfErr result (BreaksBy (known symbols.now.permanent.now.entries
         symbols.now.own.entries) here.old (shown next.entry)) }
 {
     match code(symbols, next, here) {
@@ -164,26 +158,6 @@ fn keep<A: Allocator + Copy>(
         Ok(None) => Ok(()),
         Err(code) => Err(ActsFault::Fault(next.place, code)),
     }
-}
-
-/// The image of acts whose symbols these are, or the first fault of a word.
-fn encode<A: Allocator + Copy>(symbols: &Symbols<'_, A>, acts: &Acts<A>) -> Result<Image, ActsFault>
-    ensures encodes { OnOk result (Encodes (known symbols.now.permanent.now.entries
-        symbols.now.own.entries) (reverse acts.now)) }
-    ensures image { IfOk result (IsImage (words (known symbols.now.permanent.now.entries
-        symbols.now.own.entries) (reverse acts.now))) }
-    ensures refused { IfErr result (FindsBy (known symbols.now.permanent.now.entries
-        symbols.now.own.entries) acts.now) }
-{
-    let mut image = Image::empty();
-    let mut here = Word::from_index(0o200);
-    for at in 0..acts.len() {
-        let next = acts.get(at);
-        if let Err(code) = put(symbols, next, &mut image, &mut here) {
-            return Err(ActsFault::Fault(next.place, code));
-        }
-    }
-    Ok(image)
 }
 
 /// Keeps the words of acts whose symbols these are in an empty list, up to the first fault of a
@@ -198,7 +172,7 @@ fn keep_all<A: Allocator + Copy>(
         symbols.now.own.entries) (reverse acts.now)) }
     ensures words { OnOk result (kept.new.items ≡
         all_words (known symbols.now.permanent.now.entries symbols.now.own.entries) acts.now) }
-    ensures refused { IfErr result (FindsKeeping (known symbols.now.permanent.now.entries
+    ensures refused { IfErr result (FindsBy (known symbols.now.permanent.now.entries
         symbols.now.own.entries) acts.now) }
 {
     let mut here = Word::from_index(0o200);
@@ -218,7 +192,7 @@ fn keep_words<A: Allocator + Copy>(
         symbols.now.own.entries) (reverse acts.now)) }
     ensures words { IfOk result (λ kept. kept.items ≡
         all_words (known symbols.now.permanent.now.entries symbols.now.own.entries) acts.now) }
-    ensures refused { IfErr result (FindsKeeping (known symbols.now.permanent.now.entries
+    ensures refused { IfErr result (FindsBy (known symbols.now.permanent.now.entries
         symbols.now.own.entries) acts.now) }
 {
     let mut kept = Vec::new(alloc);
@@ -237,107 +211,45 @@ fn image_of(found: &[PlacedWord]) -> Image
     image
 }
 
-/// The meaning of a source, or its first fault.
-fn assemble_acts<'p, A: Allocator + Copy>(
+/// What a source means whose permanent symbols these are, or its first fault.
+fn assemble_with<A: Allocator + Copy>(
     alloc: A,
-    permanent: &'p SymbolTable<A>,
+    permanent: &SymbolTable<A>,
     acts: &Acts<A>,
-) -> Result<Assembly<'p, A>, ActsFault>
-    ensures permanent { IfOk result (λ found. found.symbols.permanent.now.entries ≡
-        permanent.now.entries) }
+) -> Result<Translation<A>, ActsFault>
     ensures found { IfOk result (λ found. IsSource permanent.now.entries 1024 acts.now
-        found.symbols.own.entries found.image) }
-    ensures refused { IfErr result (Refuses permanent.now.entries 1024 acts.now) }
-{
-    let symbols = define(alloc, permanent, acts)?;
-    let image = encode(&symbols, acts)?;
-    Ok(Assembly { symbols, image })
-}
-
-/// The meaning of a source with its words, or its first fault.
-fn assemble_words<'p, A: Allocator + Copy>(
-    alloc: A,
-    permanent: &'p SymbolTable<A>,
-    acts: &Acts<A>,
-) -> Result<AssembledWords<'p, A>, ActsFault>
-    ensures permanent { IfOk result (λ found. found.symbols.permanent.now.entries ≡
-        permanent.now.entries) }
-    ensures found { IfOk result (λ found. IsSource permanent.now.entries 1024 acts.now
-        found.symbols.own.entries found.image) }
+        found.own.entries found.image) }
     ensures words { IfOk result (λ found. found.words.items ≡
-        all_words (known permanent.now.entries found.symbols.own.entries) acts.now) }
-    ensures refused { IfErr result (RefusesKeeping permanent.now.entries 1024 acts.now) }
+        all_words (known permanent.now.entries found.own.entries) acts.now) }
+    ensures refused { IfErr result (Refuses permanent.now.entries 1024 acts.now) }
 {
     let symbols = define(alloc, permanent, acts)?;
     let words = keep_words(alloc, &symbols, acts)?;
     let image = image_of(&words);
-    Ok(AssembledWords {
-        symbols,
-        image,
-        words,
-    })
+    let Symbols { own, .. } = symbols;
+    Ok(Translation { own, image, words })
 }
 
-/// The symbols and the image of a source whose permanent symbols these are.
+/// What a source means under the permanent symbols of a profile. The words are those of the image
+/// and those that later ones replace, each at its place in the source.
 ///
 /// # Errors
 ///
 /// `Fault` with the first fault of the source and the place of its act: first those of what the acts define, in
-/// order, and where there is none those of words. `NoMemory` where memory was refused for a symbol
-/// that an act defines; neither that act nor one before it has a fault, but as a word.
-pub fn assemble<'p, A: Allocator + Copy>(
+/// order, and where there is none those of words. `NoMemory` where memory was refused.
+pub fn assemble<A: Allocator + Copy>(
     alloc: A,
-    permanent: &'p SymbolTable<A>,
     acts: &Acts<A>,
-) -> Result<Assembly<'p, A>, ActsFault>
-    ensures permanent { IfOk result (λ found. found.symbols.permanent.now.entries ≡
-        permanent.now.entries) }
-    ensures found { IfOk result (λ found. IsSource permanent.now.entries 1024 acts.now
-        found.symbols.own.entries found.image) }
-    ensures refused { IfErr result (Refuses permanent.now.entries 1024 acts.now) }
-    // A source that has a meaning is answered by no fault.
-    ensures meant { (own : List (Named × ℕ)) (image : List (Option ℕ)) →
-        IsSource permanent.now.entries 1024 acts.now own image →
-        MatchResult result (λ found. (found.symbols.own.entries ≡ own) × (found.image ≡ image))
-        (λ refused. refused ≡ ActsFault.NoMemory) }
-    // A source that has a fault is answered by no other, and by no meaning.
-    ensures faulty { (place : Placing) (code : Coded) →
-        IsRefused permanent.now.entries 1024 acts.now place code →
-        MatchResult result (λ found. ⊥) (λ refused. (refused ≡ ActsFault.Fault place code) ⊎
-        (refused ≡ ActsFault.NoMemory)) }
-{
-    assemble_acts(alloc, permanent, acts)
-}
-
-/// The symbols, the image and the words of a source whose permanent symbols these are. The words
-/// are those of the image and those that later ones replace, each at its place in the source.
-///
-/// # Errors
-///
-/// `Fault` as of [`assemble`]. `NoMemory` where `assemble` has it, and where memory was refused for a
-/// word, which is requested once all symbols have their values, before later words are looked at.
-pub fn assemble_with_words<'p, A: Allocator + Copy>(
-    alloc: A,
-    permanent: &'p SymbolTable<A>,
-    acts: &Acts<A>,
-) -> Result<AssembledWords<'p, A>, ActsFault>
-    ensures permanent { IfOk result (λ found. found.symbols.permanent.now.entries ≡
-        permanent.now.entries) }
-    ensures found { IfOk result (λ found. IsSource permanent.now.entries 1024 acts.now
-        found.symbols.own.entries found.image) }
+    profile: Profile,
+) -> Result<Translation<A>, ActsFault>
+    ensures found { IfOk result (λ found. IsSource (permanent_symbols profile) 1024 acts.now
+        found.own.entries found.image) }
     ensures words { IfOk result (λ found. found.words.items ≡
-        all_words (known permanent.now.entries found.symbols.own.entries) acts.now) }
-    ensures refused { IfErr result (RefusesKeeping permanent.now.entries 1024 acts.now) }
-    // A source that has a meaning is answered by no fault.
-    ensures meant { (own : List (Named × ℕ)) (image : List (Option ℕ)) →
-        IsSource permanent.now.entries 1024 acts.now own image →
-        MatchResult result (λ found. (found.symbols.own.entries ≡ own) × (found.image ≡ image))
-        (λ refused. refused ≡ ActsFault.NoMemory) }
-    // A source that has a fault is answered by no other, and by no meaning.
-    ensures faulty { (place : Placing) (code : Coded) →
-        IsRefused permanent.now.entries 1024 acts.now place code →
-        MatchResult result (λ found. ⊥) (λ refused. (refused ≡ ActsFault.Fault place code) ⊎
-        (refused ≡ ActsFault.NoMemory)) }
+        all_words (known (permanent_symbols profile) found.own.entries) acts.now) }
+    ensures refused { IfErr result (Refuses (permanent_symbols profile) 1024 acts.now) }
 {
-    assemble_words(alloc, permanent, acts)
+    let Ok(permanent) = permanent_table(alloc, profile) else {
+        return Err(ActsFault::NoMemory);
+    };
+    assemble_with(alloc, &permanent, acts)
 }

@@ -2,22 +2,21 @@
 //!
 //! A source is a list of acts, each with its place, in the order in which faults are looked for:
 //! tags, origins, assignments, words, and what is wrong by itself. [`assemble`] gives the one
-//! meaning of such a list, or its one fault; [`assemble_with_words`] gives its words with their places
-//! too. How a text becomes acts is not looked at here.
+//! meaning of such a list with its words, or its one fault. How a text becomes acts is not looked at
+//! here.
 #![tactic(auto)]
 
 pub mod act;
 pub mod acts;
 pub mod assembly;
 pub mod fault_code;
-pub mod laws;
 pub mod permanent;
 pub mod symbols;
 mod words;
 
 pub use act::{Act, ExpressionTerm, Name, PlacedWord, Sign, SignedTerm, SourcePlace};
 pub use acts::{Acts, SourceAct};
-pub use assembly::{ActsFault, AssembledWords, Assembly, assemble, assemble_with_words};
+pub use assembly::{ActsFault, Translation, assemble};
 pub use fault_code::FaultCode;
 pub use permanent::permanent_table;
 pub use symbols::{SymbolTable, Symbols};

@@ -1,6 +1,6 @@
 //! The symbols of a source and their values.
 
-ghost use Rattle.std.specs.Prelude.{◌≡◌, Ok, [], length, OnOk, IfErr};
+ghost use Rattle.std.specs.Prelude.{◌≡◌, Ok, [], OnOk, IfErr};
 ghost use Rattle.pal_acts.specs.Values.{known, term_value, value, joined};
 ghost use Rattle.pal_acts.specs.Meaning.{location_after, given, taken};
 ghost use Rattle.pal_acts.specs.Steps.{IsFault};
@@ -96,8 +96,7 @@ impl<'p, A: Allocator + Copy> Symbols<'p, A> {
         ensures given { OnOk result (given other 1024 self.old.own.entries name
             (known self.old.permanent.now.entries self.old.own.entries name) value ≡
             Ok self.new.own.entries) }
-        ensures refused { IfErr result (IsFault (length self.old.own.entries)
-            (given other 1024 self.old.own.entries name
+        ensures refused { IfErr result (IsFault (given other 1024 self.old.own.entries name
             (known self.old.permanent.now.entries self.old.own.entries name) value)) }
         ensures permanent { self.new.permanent ≡ self.old.permanent }
     {
@@ -132,9 +131,8 @@ impl<'p, A: Allocator + Copy> Symbols<'p, A> {
             self.old.own.entries here.old terms.now act ≡ Ok self.new.own.entries) }
         ensures location { OnOk result (here.new ≡ location_after
             (known self.old.permanent.now.entries self.old.own.entries) here.old terms.now act) }
-        ensures refused { IfErr result (IsFault (length self.old.own.entries)
-            (taken self.old.permanent.now.entries 1024 self.old.own.entries here.old terms.now
-            act)) }
+        ensures refused { IfErr result (IsFault (taken self.old.permanent.now.entries 1024
+            self.old.own.entries here.old terms.now act)) }
         ensures permanent { self.new.permanent ≡ self.old.permanent }
     {
         match act {

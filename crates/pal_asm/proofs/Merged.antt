@@ -81,9 +81,9 @@ abbrev pub LinesAfter : SourcePlace → List TextLine → Type 0
 LinesAfter p [] = Unit {0}
 LinesAfter p (l ∷ ls) = Strict p l.place × LinesAfter l.place ls
 
-weaker : (p q : SourcePlace) (ws : List PlacedWord) → Upto p q → After q ws → After p ws
-weaker p q [] h a = tt
-weaker p q (w ∷ ws) h a = (upto_trans p q w.place h a.0, a.1)
+pub words_weaker : (p q : SourcePlace) (ws : List PlacedWord) → Upto p q → After q ws → After p ws
+words_weaker p q [] h a = tt
+words_weaker p q (w ∷ ws) h a = (upto_trans p q w.place h a.0, a.1)
 
 pub lines_weaker : (p q : SourcePlace) (ls : List TextLine) → Strict p q → LinesAfter q ls → LinesAfter p ls
 lines_weaker p q [] h a = tt
@@ -157,11 +157,11 @@ lines_kept p (l ∷ ls) ws a =
 
 skip_after : (p q : SourcePlace) (ws : List PlacedWord) → After q ws → After q (skip p ws)
 skip_after p q [] a = tt
-skip_after p q (w ∷ ws) a = cond_both (is_before p w) (skip p ws) (w ∷ ws) (λ l. After q l) (λ is. weaker q w.place (skip p ws) a.0 (skip_after p w.place ws a.1)) (λ is. a)
+skip_after p q (w ∷ ws) a = cond_both (is_before p w) (skip p ws) (w ∷ ws) (λ l. After q l) (λ is. words_weaker q w.place (skip p ws) a.0 (skip_after p w.place ws a.1)) (λ is. a)
 
 those_after : (p q : SourcePlace) (ws : List PlacedWord) → After q ws → After q (after_those p ws)
 those_after p q [] a = tt
-those_after p q (w ∷ ws) a = cond_both (is_at p w) (after_those p ws) (w ∷ ws) (λ l. After q l) (λ is. weaker q w.place (after_those p ws) a.0 (those_after p w.place ws a.1)) (λ is. a)
+those_after p q (w ∷ ws) a = cond_both (is_at p w) (after_those p ws) (w ∷ ws) (λ l. After q l) (λ is. words_weaker q w.place (after_those p ws) a.0 (those_after p w.place ws a.1)) (λ is. a)
 
 pub turns_are : (p q : SourcePlace) (ls : List TextLine) (ws : List PlacedWord) → LinesAfter p ls → After q ws → turns_text ls ws ≡ lines_text ls ws
 turns_are p q [] ws a b = refl

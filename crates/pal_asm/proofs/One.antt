@@ -18,7 +18,7 @@ use Rattle.pal_acts.specs.Values.{known}
 use Rattle.pal_acts.specs.declared.act.PlacedWord.{PlacedWord}
 use Rattle.pal_acts.specs.declared.assembly.ActsFault.{ActsFault}
 use Rattle.pal_acts.specs.declared.assembly.ActsFault.TheVariants as refused
-use Rattle.pal_acts.proofs.Told.{Has}
+use Rattle.pal_acts.specs.Faults.{Refuses as ActsRefuse}
 use Rattle.pal_acts.proofs.First.{one_source, not_both, one_fault}
 use Rattle.pal_asm.specs.declared.number.Radix.{Radix}
 use Rattle.pal_asm.specs.declared.number.Radix.TheVariants.{Octal}
@@ -148,18 +148,12 @@ module _ (perm : List (Name × ℕ)) (parts : List (List ℕ)) where
   tells_only fault h (Source told) k = inl (ap Source (faults_one told fault k h))
   tells_only fault h NoMemory k = inr refl
 
-  pub same_meaning : (s u : List (Name × ℕ)) (i j : List (Option ℕ)) → Means perm parts s i → Means perm parts u j → (s ≡ u) × (i ≡ j)
-  same_meaning s u i j h k = means_one s u i j h k
-
-  pub no_meaning : (fault : PalFault) → IsFault perm parts fault → (s : List (Name × ℕ)) (i : List (Option ℕ)) → Means perm parts s i → ⊥
-  no_meaning fault k s i h = means_sound s i fault h k
-
 pub matched : {X : Type 0} (r : Result X AssembleFault) (P Q : X → Type 0) (F G : AssembleFault → Type 0) → IfOk r P → IfErr r F → ((x : X) → P x → Q x) → ((e : AssembleFault) → F e → G e) → MatchResult r Q G
 matched (Ok x) P Q F G ok err p f = p x ok
 matched (Err e) P Q F G ok err p f = f e err
 
 -- a refusal of acts is that of their source
-pub told_so : (perm : List (Name × ℕ)) (acts : List PlacedAct) (r : ActsFault) → Has perm 1024 acts r → RefusesActs perm acts (fault_of r)
+pub told_so : (perm : List (Name × ℕ)) (acts : List PlacedAct) (r : ActsFault) → ActsRefuse perm 1024 acts r → RefusesActs perm acts (fault_of r)
 told_so perm acts (refused.Fault place code) h = h
 told_so perm acts refused.NoMemory h = tt
 
@@ -176,53 +170,36 @@ told : {X : Type 0} (r : Result X AssembleFault) {F G : AssembleFault → Type 0
 told (Ok x) h f = tt
 told (Err e) h f = f e h
 
--- what holds of acts over these symbols holds of them over the same
-pub source_by : (perm permanent : List (Name × ℕ)) (acts : List PlacedAct) (s own : List (Name × ℕ)) (i image : List (Option ℕ)) → permanent ≡ perm → IsSource permanent 1024 acts own image → s ≡ own → i ≡ image → IsSource perm 1024 acts s i
-source_by perm permanent acts s own i image same h e f =
-    let P : List (Name × ℕ) → Type 0 = λ p. IsSource p 1024 acts own image in
-    let Q : List (Name × ℕ) → Type 0 = λ l. IsSource perm 1024 acts l image in
-    let R : List (Option ℕ) → Type 0 = λ l. IsSource perm 1024 acts s l in
-    subst R (sym f) (subst Q (sym e) (subst P same h))
+-- an answer that was made of this is one of whatever holds of it
+pub of_same : {X T : Type 0} (r : Result X AssembleFault) (of : X → T) (t : T) → IfOk r (λ x. of x ≡ t) → (P : T → Type 0) → P t → IfOk r (λ x. P (of x))
+of_same r of t same P h = one r same (λ x e. subst P (sym e) h)
 
-module _ {X : Type 0} (r : Result X AssembleFault) where
-  pub source_if : (symbols : X → List (Name × ℕ)) (image_in : X → List (Option ℕ)) (perm permanent : List (Name × ℕ)) (acts : List PlacedAct) (own : List (Name × ℕ)) (image : List (Option ℕ)) → permanent ≡ perm → IsSource permanent 1024 acts own image
-      → IfOk r (λ x. symbols x ≡ own) → IfOk r (λ x. image_in x ≡ image) → IfOk r (λ x. IsSource perm 1024 acts (symbols x) (image_in x))
-  source_if symbols image_in perm permanent acts own image same h e f = both r e f (λ x. source_by perm permanent acts (symbols x) own (image_in x) image same h)
+-- a refusal for want of memory is one of all sources
+pub silent_refuses : {X : Type 0} (r : Result X AssembleFault) (perm : List (Name × ℕ)) (parts : List (List ℕ)) → IfErr r (λ e. e ≡ NoMemory) → IfErr r (Refuses perm parts)
+silent_refuses r perm parts h = told r h (λ e is. subst (Refuses perm parts) (sym is) tt)
 
-  -- what is true of the words that were found is true of all words
-  pub listing_if : (symbols : X → List (Name × ℕ)) (text : X → List ℕ) (perm permanent own : List (Name × ℕ)) (acts : List PlacedAct) (lines there : List TextLine) (ws : List PlacedWord)
-      → permanent ≡ perm → there ≡ lines → ws ≡ all_words (known permanent own) acts → IfOk r (λ x. symbols x ≡ own) → IfOk r (λ x. text x ≡ turns_text there ws ++ codes "\n" ++ symbols_text own)
-      → IfOk r (λ x. text x ≡ turns_text lines (all_words (known perm (symbols x)) acts) ++ codes "\n" ++ symbols_text (symbols x))
-  listing_if symbols text perm permanent own acts lines there ws same same_lines words e f =
-      both r e f (λ x own_is text_is. text_is
-      ∙ ap (λ l. turns_text l ws ++ codes "\n" ++ symbols_text own) same_lines
-      ∙ ap (λ l. turns_text lines l ++ codes "\n" ++ symbols_text own) (words ∙ ap (λ s. all_words (known s own) acts) same)
-      ∙ ap (λ s. turns_text lines (all_words (known perm s) acts) ++ codes "\n" ++ symbols_text s) (sym own_is))
+-- what acts mean is what their parts mean, and their listing and their refusal those of their parts
+module _ (perm : List (Name × ℕ)) (parts : List (List ℕ)) (acts : List PlacedAct) (lines : List TextLine) (sizes : size_fault parts ≡ None) (reads : Reads 1 Octal parts acts lines) where
+  pub means : (own : List (Name × ℕ)) (image : List (Option ℕ)) → IsSource perm 1024 acts own image → Means perm parts own image
+  means own image h = record { acts = acts; lines = lines; sizes = sizes; reads = reads; so = h }
 
-  -- the words that were found are those of the acts over these symbols
-  pub words_if : (symbols : X → List (Name × ℕ)) (words_in : X → List PlacedWord) (perm permanent own : List (Name × ℕ)) (acts : List PlacedAct) (ws : List PlacedWord)
-      → permanent ≡ perm → ws ≡ all_words (known permanent own) acts → IfOk r (λ x. symbols x ≡ own) → IfOk r (λ x. words_in x ≡ ws) → IfOk r (λ x. words_in x ≡ all_words (known perm (symbols x)) acts)
-  words_if symbols words_in perm permanent own acts ws same words e f =
-      both r e f (λ x own_is words_are. words_are ∙ words ∙ ap (λ s. all_words (known s own) acts) same ∙ ap (λ s. all_words (known perm s) acts) (sym own_is))
+  pub has_words : (own : List (Name × ℕ)) (ws : List PlacedWord) → ws ≡ all_words (known perm own) acts → HasWords perm parts own ws
+  has_words own ws h = record { acts = acts; lines = lines; sizes = sizes; reads = reads; so = h }
 
-  -- a refusal for want of memory is one of all acts
-  pub silent_refuses : (perm : List (Name × ℕ)) (acts : List PlacedAct) → IfErr r (λ e. e ≡ NoMemory) → IfErr r (RefusesActs perm acts)
-  silent_refuses perm acts h = told r h (λ e is. subst (RefusesActs perm acts) (sym is) tt)
+  pub refuses : (e : AssembleFault) → RefusesActs perm acts e → Refuses perm parts e
+  refuses (Source fault) h = inr (record { acts = acts; lines = lines; sizes = sizes; reads = reads; so = h })
+  refuses NoMemory h = tt
 
-  -- what acts mean is what their parts mean, and their listing and their refusal those of their parts
-  module _ (perm : List (Name × ℕ)) (parts : List (List ℕ)) (acts : List PlacedAct) (lines : List TextLine) (sizes : size_fault parts ≡ None) (reads : Reads 1 Octal parts acts lines) where
+  module _ {X : Type 0} (r : Result X AssembleFault) where
     pub means_if : (symbols : X → List (Name × ℕ)) (image_in : X → List (Option ℕ)) → IfOk r (λ x. IsSource perm 1024 acts (symbols x) (image_in x)) → IfOk r (λ x. Means perm parts (symbols x) (image_in x))
-    means_if symbols image_in h = one r h (λ x is. record { acts = acts; lines = lines; sizes = sizes; reads = reads; so = is })
-
-    pub lists_if : (symbols : X → List (Name × ℕ)) (text : X → List ℕ) → IfOk r (λ x. text x ≡ turns_text lines (all_words (known perm (symbols x)) acts) ++ codes "\n" ++ symbols_text (symbols x)) → IfOk r (λ x. Lists perm parts (symbols x) (text x))
-    lists_if symbols text h = one r h (λ x is. lists_by perm (symbols x) parts acts lines (text x) sizes reads is)
-
-    pub places_if : (symbols : X → List (Name × ℕ)) (words_in : X → List PlacedWord) → IfOk r (λ x. words_in x ≡ all_words (known perm (symbols x)) acts) → IfOk r (λ x. HasWords perm parts (symbols x) (words_in x))
-    places_if symbols words_in h = one r h (λ x is. record { acts = acts; lines = lines; sizes = sizes; reads = reads; so = is })
-
-    refuses : (e : AssembleFault) → RefusesActs perm acts e → Refuses perm parts e
-    refuses (Source fault) h = inr (record { acts = acts; lines = lines; sizes = sizes; reads = reads; so = h })
-    refuses NoMemory h = tt
+    means_if symbols image_in h = one r h (λ x is. means (symbols x) (image_in x) is)
 
     pub refuses_if : IfErr r (RefusesActs perm acts) → IfErr r (Refuses perm parts)
     refuses_if h = told r h refuses
+
+    -- the text of what was translated so lists its source
+    pub lists_if : (symbols : X → List (Name × ℕ)) (text : X → List ℕ) (own : List (Name × ℕ)) (ws : List PlacedWord) (there : List TextLine) → there ≡ lines → ws ≡ all_words (known perm own) acts → IfOk r (λ x. symbols x ≡ own)
+        → IfOk r (λ x. text x ≡ turns_text there ws ++ codes "\n" ++ symbols_text own) → IfOk r (λ x. Lists perm parts (symbols x) (text x))
+    lists_if symbols text own ws there same words e f =
+        both r e f (λ x own_is text_is. let P : List (Name × ℕ) → Type 0 = λ s. Lists perm parts s (text x) in
+        subst P (sym own_is) (lists_by perm own parts acts lines (text x) sizes reads (text_is ∙ (λ i. turns_text (same i) (words i) ++ codes "\n" ++ symbols_text own))))

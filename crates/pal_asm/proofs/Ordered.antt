@@ -29,7 +29,7 @@ use Rattle.pal_asm.specs.Listings.{symbols_text, listing, Lists}
 use Rattle.pal_asm.specs.SourceInCode.{turns_text}
 use Rattle.pal_asm.proofs.EachAct.{statement_holds}
 use Rattle.pal_asm.proofs.Climbs.{Marks, part_marks}
-use Rattle.pal_asm.proofs.Merged.{Upto, upto_trans, After, LinesAfter, lines_weaker, turns_are}
+use Rattle.pal_asm.proofs.Merged.{Upto, upto_trans, After, LinesAfter, words_weaker, lines_weaker, turns_are}
 
 upto_refl : (p : SourcePlace) → Upto p p
 upto_refl p = inr (refl, omega arith)
@@ -112,16 +112,12 @@ words_upto : (σ : Values) (p : SourcePlace) (before : List PlacedAct) → ActsU
 words_upto σ p [] a = tt
 words_upto σ p (x ∷ before) a = and_word_upto σ (location σ before) p x.place x.terms x.act (words σ before) a.0 (words_upto σ x.place before a.1)
 
-words_lower : (p q : SourcePlace) (ws : List PlacedWord) → Upto p q → After q ws → After p ws
-words_lower p q [] h a = tt
-words_lower p q (w ∷ ws) h a = (upto_trans p q w.place h a.0, a.1)
-
 words_turned : (p : SourcePlace) (ws later : List PlacedWord) → WordsUpto p ws → After p later → (q : SourcePlace) × After q (reverse ws ++ later)
 words_turned p [] later a b = (p, b)
 words_turned p (w ∷ ws) later a b =
     let P : List PlacedWord → Type 0 = λ l. (q : SourcePlace) × After q l in
     subst P (sym (ap (λ l. l ++ later) (reverse-append (w ∷ []) ws) ∙ append_assoc (reverse ws) (w ∷ []) later))
-    (words_turned w.place ws (w ∷ later) a.1 (upto_refl w.place, words_lower w.place p later a.0 b))
+    (words_turned w.place ws (w ∷ later) a.1 (upto_refl w.place, words_weaker w.place p later a.0 b))
 
 words_after : (σ : Values) (parts : List (List ℕ)) (acts : List PlacedAct) (lines : List TextLine) → Reads 1 Octal parts acts lines → (q : SourcePlace) × After q (all_words σ acts)
 words_after σ parts acts lines reads =

@@ -9,7 +9,6 @@ mod expression;
 pub mod fault;
 pub mod laws;
 mod listing;
-pub mod map;
 pub mod number;
 mod part_text;
 pub mod program;
@@ -19,7 +18,7 @@ mod statement;
 pub mod translation;
 
 pub use fault::{AssembleFault, PalFault};
-pub use map::{MappedLine, SourceMap, map_source};
+pub use listing::{ProgramLine, push_characters};
 pub use pal_acts::{FaultCode, SymbolTable};
 pub use program::{Program, assemble};
 pub use streams::WriteFault;

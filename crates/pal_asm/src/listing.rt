@@ -5,11 +5,12 @@ ghost use Rattle.std.specs.List.{AllByRecursion};
 ghost use Rattle.pal_text.specs.Characters.{characters};
 ghost use Rattle.pal_text.specs.Order.{IsLineWithin};
 ghost use Rattle.pal_asm.specs.Listings.{is_no_text, is_at, without_front, word_text, words_text, line_text, symbol_text, symbols_text};
+ghost use Rattle.pal_asm.specs.Programs.{symbols_in, words_in};
 ghost use Rattle.pal_asm.specs.Sources.{text_lines};
 ghost use Rattle.pal_asm.specs.SourceInCode.{lines_in, lines_of_fronts, is_before, skip, next_at, after_those, turns_text};
 
 use crate::part_text::PartText;
-use pal_acts::{Name, PlacedWord, SourcePlace, SymbolTable};
+use pal_acts::{Name, PlacedWord, SourcePlace, SymbolTable, Translation};
 use pal_text::characters::is_character_code;
 use pal_text::{Line, lines_of};
 use std::alloc::{AllocError, Allocator};
@@ -20,6 +21,26 @@ use word12::Word;
 pub(crate) struct ListedLine<'s> {
     pub(crate) place: SourcePlace,
     pub(crate) bytes: &'s [u8],
+}
+
+/// A line of a program: its place in the source, and where it begins in the listing.
+#[derive(Clone, Copy)]
+pub struct ProgramLine {
+    /// The part and the line in it, each from 1.
+    pub place: SourcePlace,
+    start: usize,
+}
+
+/// How many characters stand in front of the text of a line: an address and a word, each with two spaces after it.
+const TEXT_COLUMN: usize = 12;
+
+impl ProgramLine {
+    /// The text of a line of this listing, without blanks at its ends.
+    pub(crate) fn text_in<'l>(&self, listing: &'l [u8]) -> &'l [u8] {
+        let rest = listing.get(self.start..).unwrap_or(b"");
+        let line = rest.split(|byte| *byte == b'\n').next().unwrap_or(b"");
+        line.get(TEXT_COLUMN..).unwrap_or(b"").trim_ascii()
+    }
 }
 
 /// Keeps the lines of a part.
@@ -152,8 +173,12 @@ fn from_text(bytes: &[u8]) -> &[u8]
     rest
 }
 
-/// Adds the characters of some bytes.
-fn push_characters<A: Allocator>(text: &mut Vec<u8, A>, bytes: &[u8]) -> Result<(), AllocError>
+/// Adds the characters of some bytes: without channel 8, and without bytes that are ignored.
+///
+/// # Errors
+///
+/// Memory was refused.
+pub fn push_characters<A: Allocator>(text: &mut Vec<u8, A>, bytes: &[u8]) -> Result<(), AllocError>
     ensures { OnOk result (text.new.items ≡ text.old.items ++ characters bytes.now) }
 {
     for byte in bytes {
@@ -217,9 +242,10 @@ fn push_line<'w, A: Allocator>(
     }
 }
 
-/// Adds lines, each with the words that stand on it. The words are in order.
+/// Adds lines, each with the words that stand on it, and keeps where they begin. The words are in order.
 fn push_lines<A: Allocator>(
     text: &mut Vec<u8, A>,
+    starts: &mut Vec<ProgramLine, A>,
     lines: &[ListedLine<'_>],
     words: &[PlacedWord],
 ) -> Result<(), AllocError>
@@ -228,6 +254,10 @@ fn push_lines<A: Allocator>(
 {
     let mut rest = words;
     for line in lines {
+        starts.push(ProgramLine {
+            place: line.place,
+            start: text.len(),
+        })?;
         rest = push_line(text, *line, from_place(line.place, rest))?;
     }
     Ok(())
@@ -262,21 +292,21 @@ fn push_symbols<A: Allocator + Copy>(
     Ok(())
 }
 
-/// The listing of these parts, whose words and whose own symbols these are.
+/// The listing of these parts, which mean this, and where its lines begin.
 pub(crate) fn make_listing<A: Allocator + Copy>(
     alloc: A,
     fronts: &[PartText<'_>],
-    words: &[PlacedWord],
-    own: &SymbolTable<A>,
+    translation: &Translation<A>,
+    starts: &mut Vec<ProgramLine, A>,
 ) -> Result<Vec<u8, A>, AllocError>
     ensures { IfOk result (λ text. text.items ≡
-        turns_text (lines_of_fronts fronts.now) words.now ++ codes "\n" ++
-        symbols_text own.now.entries) }
+        turns_text (lines_of_fronts fronts.now) (words_in translation.now) ++ codes "\n" ++
+        symbols_text (symbols_in translation.now)) }
 {
     let lines = listed_lines(alloc, fronts)?;
     let mut text = Vec::new(alloc);
-    push_lines(&mut text, &lines, words)?;
+    push_lines(&mut text, starts, &lines, &translation.words)?;
     text.extend_from_slice(b"\n")?;
-    push_symbols(&mut text, own)?;
+    push_symbols(&mut text, &translation.own)?;
     Ok(text)
 }

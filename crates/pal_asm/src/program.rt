@@ -5,32 +5,30 @@ ghost use Rattle.pal_text.specs.declared.names.Name.{Name as Named};
 ghost use Rattle.std.specs.Io.KnownBytes.{Appends};
 ghost use Rattle.streams.specs.Bytes.{AppendsFront};
 ghost use Rattle.pal_acts.specs.Permanent.{permanent_symbols};
-ghost use Rattle.pal_acts.specs.Values.{known};
-ghost use Rattle.pal_acts.specs.Sources.{IsSource, all_words};
 ghost use Rattle.pal_asm.specs.declared.fault.PalFault.{PalFault as Faulty};
-ghost use Rattle.pal_asm.specs.Sources.{texts, size_fault, Means, IsFault, Refuses};
+ghost use Rattle.pal_asm.specs.Sources.{texts, size_fault, Means, HasWords, IsFault, Refuses};
 ghost use Rattle.pal_asm.specs.Listings.{symbols_text, Lists};
-ghost use Rattle.pal_asm.specs.Programs.{symbols_of, image_of, listing_of};
-ghost use Rattle.pal_asm.specs.SourceInCode.{RefusesActs, lines_of_fronts, turns_text};
+ghost use Rattle.pal_asm.specs.Programs.{symbols_in, words_in, symbols_of, image_of, words_of, listing_of};
+ghost use Rattle.pal_asm.specs.SourceInCode.{lines_of_fronts, turns_text};
 
 use crate::fault::AssembleFault;
-use crate::listing::make_listing;
+use crate::listing::{ProgramLine, make_listing};
 use crate::part_text::PartText;
-use crate::reading::{Reading, read_source};
+use crate::reading::read_source;
 use crate::sizes::fault_of_sizes;
-use crate::translation::fault_of;
+use crate::translation::{Translation, translate_acts};
 use bin_tape::Image;
 use instruct::Profile;
-use pal_acts::{Acts, AssembledWords, SymbolTable, Symbols, assemble_with_words, permanent_table};
+use pal_acts::{PlacedWord, SymbolTable};
 use std::alloc::Allocator;
 use streams::{ByteSink, WriteFault, put};
 
-/// What a source means: its image, its own symbols and its listing.
+/// What a source means, its listing, and where its lines are in the listing.
 #[derive(Drop)]
 pub struct Program<A: Allocator + Copy> {
-    image: Image,
-    own: SymbolTable<A>,
+    translation: Translation<A>,
     listing: Vec<u8, A>,
+    lines: Vec<ProgramLine, A>,
 }
 
 impl<A: Allocator + Copy> Program<A> {
@@ -38,14 +36,31 @@ impl<A: Allocator + Copy> Program<A> {
     pub fn image(&self) -> &Image
         ensures { result.now ≡ image_of self.now }
     {
-        &self.image
+        &self.translation.image
     }
 
     /// The symbols that the source defines with their values, in the order of their definition.
     pub fn symbols(&self) -> &SymbolTable<A>
         ensures { result.now.entries ≡ symbols_of self.now }
     {
-        &self.own
+        &self.translation.own
+    }
+
+    /// The words with their places, in the order of the source; of several for one address the last one counts.
+    pub fn words(&self) -> &[PlacedWord]
+        ensures { result.now ≡ words_of self.now }
+    {
+        &self.translation.words
+    }
+
+    /// The lines of all parts, in order. This is tested, not proved.
+    pub fn lines(&self) -> &[ProgramLine] {
+        &self.lines
+    }
+
+    /// The text of a line as the listing has it, without blanks at its ends. This is tested, not proved.
+    pub fn text(&self, line: &ProgramLine) -> &[u8] {
+        line.text_in(&self.listing)
     }
 
     /// Writes the listing: each line of the source beside its first word in octal, the further
@@ -71,74 +86,26 @@ impl<A: Allocator + Copy> Program<A> {
     }
 }
 
-/// What acts mean with their words, or their fault at its place.
-pub(crate) fn assemble_words<'p, A: Allocator + Copy>(
-    alloc: A,
-    permanent: &'p SymbolTable<A>,
-    acts: &Acts<A>,
-) -> Result<AssembledWords<'p, A>, AssembleFault>
-    ensures found { IfOk result (λ found. IsSource permanent.now.entries 1024 acts.now
-        found.symbols.own.entries found.image) }
-    ensures words { IfOk result (λ found. found.words.items ≡
-        all_words (known permanent.now.entries found.symbols.own.entries) acts.now) }
-    ensures refused { IfErr result (RefusesActs permanent.now.entries acts.now) }
-{
-    match assemble_with_words(alloc, permanent, acts) {
-        Ok(found) => Ok(found),
-        Err(refused) => Err(fault_of(refused)),
-    }
-}
-
-/// A program, by what was assembled and the bytes of the parts that were read.
+/// A program, by what was translated and the bytes of the parts that were read.
 fn program_of<A: Allocator + Copy>(
     alloc: A,
-    found: AssembledWords<'_, A>,
+    translation: Translation<A>,
     fronts: &[PartText<'_>],
 ) -> Result<Program<A>, AssembleFault>
-    ensures image { IfOk result (λ program. image_of program ≡ found.entry.image) }
-    ensures symbols { IfOk result (λ program. symbols_of program ≡
-        found.entry.symbols.own.entries) }
+    ensures translation { IfOk result (λ program. program.translation ≡ translation) }
     ensures listing { IfOk result (λ program. listing_of program ≡
-        turns_text (lines_of_fronts fronts.now) found.entry.words.items ++ codes "\n" ++
-        symbols_text found.entry.symbols.own.entries) }
+        turns_text (lines_of_fronts fronts.now) (words_in translation) ++ codes "\n" ++
+        symbols_text (symbols_in translation)) }
     ensures memory { IfErr result (λ fault. fault ≡ AssembleFault.NoMemory) }
 {
-    let AssembledWords {
-        symbols,
-        image,
-        words,
-    } = found;
-    let Symbols { own, .. } = symbols;
-    let Ok(listing) = make_listing(alloc, fronts, &words, &own) else {
-        return Err(AssembleFault::NoMemory);
-    };
-    Ok(Program {
-        image,
-        own,
-        listing,
-    })
-}
-
-/// What a source means that was read, with its listing, or its fault.
-fn assemble_reading<A: Allocator + Copy>(
-    alloc: A,
-    reading: &Reading<'_, A>,
-    profile: Profile,
-) -> Result<Program<A>, AssembleFault>
-    ensures found { IfOk result (λ program. IsSource (permanent_symbols profile) 1024
-        reading.now.acts (symbols_of program) (image_of program)) }
-    ensures listing { IfOk result (λ program. listing_of program ≡
-        turns_text (lines_of_fronts reading.now.fronts.items)
-        (all_words (known (permanent_symbols profile) (symbols_of program)) reading.now.acts) ++
-        codes "\n" ++ symbols_text (symbols_of program)) }
-    ensures refused { IfErr result (RefusesActs (permanent_symbols profile) reading.now.acts) }
-{
-    let Ok(permanent) = permanent_table(alloc, profile) else {
-        return Err(AssembleFault::NoMemory);
-    };
-    match assemble_words(alloc, &permanent, &reading.acts) {
-        Ok(found) => program_of(alloc, found, &reading.fronts),
-        Err(fault) => Err(fault),
+    let mut lines = Vec::new(alloc);
+    match make_listing(alloc, fronts, &translation, &mut lines) {
+        Ok(listing) => Ok(Program {
+            translation,
+            listing,
+            lines,
+        }),
+        Err(_) => Err(AssembleFault::NoMemory),
     }
 }
 
@@ -151,6 +118,8 @@ fn assemble_parts<A: Allocator + Copy>(
     requires { size_fault (texts parts.now) ≡ None }
     ensures meaning { IfOk result (λ program. Means (permanent_symbols profile) (texts parts.now)
         (symbols_of program) (image_of program)) }
+    ensures words { IfOk result (λ program. HasWords (permanent_symbols profile)
+        (texts parts.now) (symbols_of program) (words_of program)) }
     ensures listed { IfOk result (λ program. Lists (permanent_symbols profile) (texts parts.now)
         (symbols_of program) (listing_of program)) }
     ensures refused { IfErr result (Refuses (permanent_symbols profile) (texts parts.now)) }
@@ -158,7 +127,10 @@ fn assemble_parts<A: Allocator + Copy>(
     let Ok(reading) = read_source(alloc, parts) else {
         return Err(AssembleFault::NoMemory);
     };
-    assemble_reading(alloc, &reading, profile)
+    match translate_acts(alloc, &reading.acts, profile) {
+        Ok(found) => program_of(alloc, found, &reading.fronts),
+        Err(fault) => Err(fault),
+    }
 }
 
 /// What a source means under the permanent symbols of a profile, with its listing.
@@ -169,6 +141,8 @@ fn assemble_for<A: Allocator + Copy>(
 ) -> Result<Program<A>, AssembleFault>
     ensures meaning { IfOk result (λ program. Means (permanent_symbols profile) (texts parts.now)
         (symbols_of program) (image_of program)) }
+    ensures words { IfOk result (λ program. HasWords (permanent_symbols profile)
+        (texts parts.now) (symbols_of program) (words_of program)) }
     ensures listed { IfOk result (λ program. Lists (permanent_symbols profile) (texts parts.now)
         (symbols_of program) (listing_of program)) }
     ensures refused { IfErr result (Refuses (permanent_symbols profile) (texts parts.now)) }
@@ -195,6 +169,8 @@ pub fn assemble<A: Allocator + Copy>(
 ) -> Result<Program<A>, AssembleFault>
     ensures meaning { IfOk result (λ program. Means (permanent_symbols profile) (texts parts.now)
         (symbols_of program) (image_of program)) }
+    ensures words { IfOk result (λ program. HasWords (permanent_symbols profile)
+        (texts parts.now) (symbols_of program) (words_of program)) }
     ensures listed { IfOk result (λ program. Lists (permanent_symbols profile) (texts parts.now)
         (symbols_of program) (listing_of program)) }
     ensures refused { IfErr result (Refuses (permanent_symbols profile) (texts parts.now)) }

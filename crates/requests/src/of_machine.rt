@@ -71,7 +71,7 @@ fn carry_out_machine_task<R: Files + Input + Print + Eprint>(
     request: &SourceProgramRequest<'_>,
     at_terminal: bool,
 ) -> Result<Status, Fault> {
-    let places = match resolve_places(source.numbered.map.symbols(), &request.places) {
+    let places = match resolve_places(source.numbered.program.symbols(), &request.places) {
         Ok(places) => places,
         Err(misuse) => return Ok(tell_misuse(rt, &misuse)),
     };
@@ -90,7 +90,7 @@ fn carry_out_machine_task<R: Files + Input + Print + Eprint>(
             hold_teletype_session_on(rt, alloc, &session, at_terminal, &mut frames)
         }
         MachineTask::Dump(dump) => {
-            let image = source.numbered.map.image();
+            let image = source.numbered.program.image();
             let text = words_of(alloc, image, dump.profile, Some(&source.notes))?;
             put(&mut StdWriter::new(io::writer(rt)), &text)?;
             Ok(Status::Done)

@@ -2,6 +2,7 @@
 //! not proved, except that the first line of a text is proved to stay as it is.
 
 pub(crate) mod assembled;
+mod ignored;
 mod numbering;
 mod part_lines;
 pub(crate) mod proposed;

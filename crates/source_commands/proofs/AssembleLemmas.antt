@@ -1,5 +1,5 @@
 -- The image of a tape that was or was not written, and the listing of a source.
-use Rattle.std.proofs.Common.{ℕ, ◌≡◌, List, length, refl}
+use Rattle.std.proofs.Common.{ℕ, ◌≡◌, List, refl}
 use Rattle.std.specs.Prelude.{◌↔◌, Bool, true, false, Option, Result, Err}
 use Rattle.bin_tape.specs.Image.{IsEmptyImage}
 use Rattle.bin_tape.specs.declared.fault.WriteTapeFault.{WriteTapeFault}
@@ -9,11 +9,8 @@ use Rattle.pal_text.specs.declared.names.Name.{Name}
 use Rattle.pal_acts.specs.Permanent.{permanent_symbols}
 use Rattle.pal_asm.specs.Listings.{Lists}
 use Rattle.pal_asm.specs.Sources.{Means}
-use Rattle.command_parts.specs.declared.status.Fault.{Fault}
-use Rattle.command_parts.specs.declared.status.Fault.TheVariants.{Tape, Source, Declared, Certificate, Events, Guess, Declare, Device}
-use Rattle.command_parts.specs.declared.status.Fault.TheVariants as fault
-use Rattle.source_commands.specs.AssembleText.{HasTable, IsAssemblyFault, IsListFault, IsListed}
-use Rattle.source_commands.specs.SourceTexts.{AreRead, is_bad_number}
+use Rattle.source_commands.specs.AssembleText.{HasTable, IsListed}
+use Rattle.source_commands.specs.SourceTexts.{AreRead}
 
 -- an image whose write failed is not empty
 pub not_empty : (r : Result Unit WriteTapeFault) (image now : List (Option ℕ)) → ((r ≡ Err EmptyImage) ↔ IsEmptyImage now) → now ≡ image → r ≡ Err WriteFault → IsEmptyImage image → ⊥
@@ -24,20 +21,6 @@ not_empty r image now told same failed empty =
 -- an image that was refused as empty is empty
 pub is_empty : (r : Result Unit WriteTapeFault) (image now : List (Option ℕ)) → ((r ≡ Err EmptyImage) ↔ IsEmptyImage now) → now ≡ image → r ≡ Err EmptyImage → IsEmptyImage image
 is_empty r image now told same is = rw same at (told.0 is)
-
--- the fault that keeps the parts from being assembled is also why the sources have no listing
-pub not_listed : (profile : Profile) (marks : List Bool) (sources left : List (Option (List ℕ))) (parts : List (List ℕ)) (fault : Fault) →
-    is_bad_number (length sources) ≡ false → AreRead sources parts → IsAssemblyFault profile parts fault → IsListFault profile marks sources left fault
-not_listed profile marks sources left parts (Source fault) number read is = record { parts = parts; read = read; is = is }
-not_listed profile marks sources left parts fault.NoMemory number read is = number
-not_listed profile marks sources left parts (Tape fault) number read is = absurd is
-not_listed profile marks sources left parts fault.EmptyImage number read is = absurd is
-not_listed profile marks sources left parts (Declared fault) number read is = absurd is
-not_listed profile marks sources left parts (Certificate fault) number read is = absurd is
-not_listed profile marks sources left parts (Events fault) number read is = absurd is
-not_listed profile marks sources left parts (Guess fault) number read is = absurd is
-not_listed profile marks sources left parts (Declare fault) number read is = absurd is
-not_listed profile marks sources left parts (Device fault) number read is = absurd is
 
 -- what is written for the listing of the parts
 pub listed_as : (crossed : Bool) (profile : Profile) (sources : List (Option (List ℕ))) (parts : List (List ℕ)) (symbols : List (Name × ℕ)) (image : List (Option ℕ)) (listing text : List ℕ) →

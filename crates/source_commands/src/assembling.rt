@@ -167,7 +167,7 @@ pub fn list<A: Allocator + Copy, R: ByteSource, W: ByteSink>(
     let parts = read_parts(alloc, sources)?;
     let slices = byte_slices(alloc, &parts)?;
     let program = program_of(alloc, &slices, profile, names, told)?;
-    let text = text_of(alloc, &slices, profile, &program, crossed)?;
+    let text = text_of(alloc, &slices, &program, crossed)?;
     match put(out, &text) {
         Ok(()) => Ok(Status::Done),
         Err(_) => Err(Fault::Device(DeviceFault::Write)),

@@ -1,16 +1,17 @@
 //! The line of a verdict.
 
-ghost use Rattle.std.specs.Prelude.{◌≡◌, ◌+◌, ◌++◌, codes, decimal, length, OnOk, IfOk};
-ghost use Rattle.wordset.specs.Words.{SameWords};
+ghost use Rattle.std.specs.Prelude.{◌≡◌, ◌+◌, ◌++◌, ◌&&◌, nat_lt, codes, decimal, length, OnOk, IfOk};
+ghost use Rattle.wordset.specs.Words.{SameWords, some_below};
 ghost use Rattle.wordset.specs.Lanes.{words};
 ghost use Rattle.declaration.specs.DeclarationInCode.{meaning};
-ghost use Rattle.diagnostics.specs.CheckText.{assertions_text, condition_text, counted, in_bodies, is_halt, no_text, reads_text, verdict_status, verdict_text, yes_text};
+ghost use Rattle.diagnostics.specs.CheckText.{condition_text, counted, in_bodies, is_halt, is_skipping, more_text, no_text, reads_text, verdict_status, verdict_text, widened_text, yes_text};
 
 use command_parts::status::Status;
 use declaration::Declaration;
 use itoa::Buffer;
 use judge::{Condition, Refusal};
 use std::alloc::{AllocError, Allocator};
+use word12::Word;
 use wordset::WordSet;
 
 /// The name of a condition.
@@ -122,15 +123,21 @@ fn push_reads<A: Allocator, D: Allocator>(
     push_count(text, cells, b" read cells")
 }
 
-/// Adds a number of assertions after a comma, if it is not 0.
-fn push_assertion_count<A: Allocator>(text: &mut Vec<u8, A>, count: usize) -> Result<(), AllocError>
-    ensures { OnOk result (text.new.items ≡ text.old.items ++ assertions_text count) }
+/// Adds how many there are of something, after a comma, with its name for one and for more, if there are any.
+fn push_more<A: Allocator>(
+    text: &mut Vec<u8, A>,
+    count: usize,
+    one: &[u8],
+    more: &[u8],
+) -> Result<(), AllocError>
+    ensures { OnOk result
+        (text.new.items ≡ text.old.items ++ more_text count one.now more.now) }
 {
     if count == 0 {
         return Ok(());
     }
     text.extend_from_slice(b", ")?;
-    push_number(text, count, b" assertions")
+    push_number(text, count, if count == 1 { one } else { more })
 }
 
 /// Adds how many lines declare what is to hold, if some do.
@@ -138,12 +145,56 @@ fn push_assertions<A: Allocator, D: Allocator>(
     text: &mut Vec<u8, A>,
     declaration: &Declaration<D>,
 ) -> Result<(), AllocError>
-    ensures { let d = meaning declaration.now in OnOk result
-        (text.new.items ≡ text.old.items ++ assertions_text (length d.holds + length d.returns)) }
+    ensures { let d = meaning declaration.now in OnOk result (text.new.items ≡ text.old.items
+        ++ more_text (length d.holds + length d.returns) (codes " assertions") (codes " assertions")) }
 {
     let at_places = declaration.holds().len();
     let at_returns = declaration.returns().len();
-    push_assertion_count(text, at_places + at_returns)
+    push_more(text, at_places + at_returns, b" assertions", b" assertions")
+}
+
+/// Whether a routine may return by an offset above 7.
+fn is_skipping<D: Allocator>(declaration: &Declaration<D>, entry: Word) -> bool
+    ensures { result
+        ≡ some_below 64 (λ o. nat_lt 7 o && (meaning declaration.now).offset entry o) }
+{
+    for offset in 8..64usize {
+        if declaration.has_offset(entry, Word::from_index(offset)) {
+            return true;
+        }
+    }
+    false
+}
+
+/// The routines that may return by offsets above 7.
+fn skipping<D: Allocator>(declaration: &Declaration<D>) -> WordSet
+    ensures { SameWords (words result) (is_skipping (meaning declaration.now)) }
+{
+    let entries = declaration.entries();
+    let mut found = WordSet::empty();
+    for entry in entries.iter() {
+        if is_skipping(declaration, entry) {
+            found.insert(entry);
+        }
+    }
+    found
+}
+
+/// Adds for how many addresses calls may be abandoned, how many routines may store their return word, and how many may
+/// return by offsets above 7.
+fn push_widened<A: Allocator, D: Allocator>(
+    text: &mut Vec<u8, A>,
+    declaration: &Declaration<D>,
+) -> Result<(), AllocError>
+    ensures { OnOk result
+        (text.new.items ≡ text.old.items ++ widened_text (meaning declaration.now)) }
+{
+    let abandons = declaration.abandons().count();
+    push_more(text, abandons, b" abandon place", b" abandon places")?;
+    let moves = declaration.moves().count();
+    push_more(text, moves, b" moved return", b" moved returns")?;
+    let skips = skipping(declaration).count();
+    push_more(text, skips, b" skip", b" skips")
 }
 
 /// The line of a program that is safe.
@@ -158,6 +209,7 @@ fn yes_line<A: Allocator, D: Allocator>(
     push_counts(&mut text, declaration)?;
     push_reads(&mut text, declaration)?;
     push_assertions(&mut text, declaration)?;
+    push_widened(&mut text, declaration)?;
     text.extend_from_slice(b"\n")?;
     Ok(text)
 }

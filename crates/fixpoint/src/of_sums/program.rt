@@ -237,11 +237,14 @@ impl<'a, D: Allocator> SumProgram<'a, D> {
         self.tested.minus(&self.pointers)
     }
 
-    /// Whether a word has a meaning, calls through no stepped pointer, and is no HLT where the program may not halt.
+    /// Whether a word has a meaning, calls through no stepped pointer, does not return through the entry of another routine, and is
+    /// no HLT where the program may not halt.
     pub(crate) fn may_be_met(&self, place: &Place<'_, D>, at: Word, word: Word) -> bool {
+        let returned = place.returned_entry(at, word);
         place.is_supported(word)
             && place.halts_are_declared(at, word)
             && !place.steps_call_pointer(at, word)
+            && (returned.is_none() || returned == place.routine)
     }
 
     /// Whether what a word writes and reads by a fact may be written and read.

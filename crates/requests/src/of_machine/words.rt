@@ -85,7 +85,7 @@ impl Statements for SourceStatements<'_> {
             line.extend_from_slice(label)?;
         }
         line.extend_from_slice(b"  ")?;
-        let is_unchanged = self.source.numbered.map.image().get(at) == Some(word);
+        let is_unchanged = self.source.numbered.program.image().get(at) == Some(word);
         match self.source.notes.at(at) {
             Some(note) if note.is_first && is_unchanged => line.extend_from_slice(without_tag(
                 note,

@@ -223,7 +223,7 @@ impl<R: Files + Input + Print + Eprint, I: Read + Drop> OpenProgram<'_, '_, R, I
                 show: *show,
                 stopping: *stopping,
             }),
-            Some(source) => resolve_places(source.numbered.map.symbols(), &self.request.places),
+            Some(source) => resolve_places(source.numbered.program.symbols(), &self.request.places),
         }
     }
 

@@ -10,7 +10,7 @@ use command_parts::status::{Fault, Status};
 use command_parts::visible::visible_bytes;
 use labels::{NumberedProgram, NumberingFault, declared_lines, name_declaration};
 use pal_acts::{PlacedWord, SourcePlace};
-use pal_asm::SourceMap;
+use pal_asm::Program;
 use reports::reporting::{LinePlace, SourceNotes};
 use std::alloc::{AllocError, Global};
 use std::rt::Files;
@@ -86,13 +86,13 @@ fn note_words<'w>(
 }
 
 /// What a source says about its addresses, as it may be shown to people.
-fn notes_of(alloc: Global, map: &SourceMap<Global>) -> Result<SourceNotes<Global>, AllocError> {
+fn notes_of(alloc: Global, program: &Program<Global>) -> Result<SourceNotes<Global>, AllocError> {
     let mut notes = SourceNotes::new(alloc)?;
-    let mut rest = map.words();
-    for line in map.lines() {
+    let mut rest = program.words();
+    for line in program.lines() {
         let SourcePlace { part, line: number } = line.place;
         let place = LinePlace { part, line: number };
-        notes.next_line(place, visible_bytes(alloc, map.text(line))?.as_bytes())?;
+        notes.next_line(place, visible_bytes(alloc, program.text(line))?.as_bytes())?;
         rest = note_words(&mut notes, line.place, rest)?;
     }
     Ok(notes)
@@ -134,7 +134,7 @@ fn describe_source(
     numbered: NumberedProgram<Global>,
     names: &[&str],
 ) -> Result<AssembledSource, AllocError> {
-    let notes = notes_of(alloc, &numbered.map)?;
+    let notes = notes_of(alloc, &numbered.program)?;
     let (written, shown) = readable_declarations(alloc, &given, &numbered.declaration)?;
     let names = visible_names(alloc, names)?;
     Ok(AssembledSource {

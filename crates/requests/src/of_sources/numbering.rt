@@ -9,7 +9,7 @@ use crate::telling::{tell, tell_lines, tell_with};
 use command_parts::status::{Fault, Status};
 use diagnostics::inputs::push_numbered;
 use labels::{NumberedProgram, NumberingFault, PlaceFault, machine_of, number, place};
-use pal_asm::{PalFault, map_source};
+use pal_asm::{PalFault, assemble};
 use std::alloc::Global;
 use std::fmt::Write;
 
@@ -20,14 +20,14 @@ fn number_wordless(
     parts: &[&[u8]],
     declaration: &[u8],
 ) -> Result<NumberedProgram<Global>, NumberingFault> {
-    let Ok(map) = map_source(alloc, parts, machine_of(declaration)) else {
+    let Ok(program) = assemble(alloc, parts, machine_of(declaration)) else {
         return Err(NumberingFault::NoMemory);
     };
-    match place(alloc, declaration, map.symbols()) {
+    match place(alloc, declaration, program.symbols()) {
         Ok(declaration) => Ok(NumberedProgram {
             tape: Vec::new(alloc),
             declaration,
-            map,
+            program,
         }),
         Err(PlaceFault::NoMemory) => Err(NumberingFault::NoMemory),
         Err(fault) => Err(NumberingFault::Placing(fault)),

@@ -2,6 +2,7 @@
 
 use crate::files::open_input;
 use crate::hints::CommandFiles;
+use crate::of_sources::ignored::report_ignored_lines;
 use crate::telling::tell_misuse;
 use command_line::{Misuse, ProgramRequest, Task};
 use command_parts::status::{Fault, Status};
@@ -167,7 +168,8 @@ pub(crate) fn read_source<R: Files + Input + Eprint>(
         } if origin == DeclarationOrigin::Within => {
             return Ok(Err(tell_misuse(rt, &Misuse::DeclarationAndStart)));
         }
-        _ => {}
+        DeclarationUse::Unused(_) => {}
+        _ => report_ignored_lines(rt, alloc, &parts, origin)?,
     }
     Ok(Ok(SourceInput {
         parts,

@@ -1,4 +1,4 @@
-use Rattle.pal_asm.specs.Programs.{mapped_image, mapped_symbols, mapped_words}
+use Rattle.pal_asm.specs.Programs.{image_of, symbols_of, words_of}
 use Rattle.pal_asm.specs.Sources.{texts}
 use Rattle.labels.specs.Within.{Declared, DeclaredWithin}
 use Rattle.labels.proofs.Completes.{all_located, then_so, with_words, without_words}
@@ -11,7 +11,7 @@ returns-then-not-lacks_some g c =
 pub returns-in-Ok : goal.returns-in-Ok
 returns-in-Ok g c =
     then_so c.lines_with.result (λ text. Declared c.words.result.now 1 (texts c.args.parts.now) text.items) (λ text. DeclaredWithin (texts c.args.parts.now) text.items)
-    (λ text h. with_words (texts c.args.parts.now) c.in_ok-text.text.items c.deref-2.result.now c.in_ok-text.ensures c.deref-2.ensures.value c.machine_of.result (mapped_symbols c.in-Ok.map) (mapped_image c.in-Ok.map) (mapped_words c.in-Ok.map)
+    (λ text h. with_words (texts c.args.parts.now) c.in_ok-text.text.items c.deref-2.result.now c.in_ok-text.ensures c.deref-2.ensures.value c.machine_of.result (symbols_of c.in-Ok.program) (image_of c.in-Ok.program) (words_of c.in-Ok.program)
     c.words.result.now c.machine_of.ensures c.in-Ok.ensures.meaning c.in-Ok.ensures.words c.words.ensures text.items h)
     c.lines_with.ensures
 

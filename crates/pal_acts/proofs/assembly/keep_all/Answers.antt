@@ -2,7 +2,7 @@ use Rattle.std.proofs.Common.{◌<◌, arith, take, length, List}
 use Rattle.std.specs.Prelude.{reverse}
 use Rattle.pal_acts.specs.Acts.{PlacedAct, shown}
 use Rattle.pal_acts.specs.Values.{Values, known}
-use Rattle.pal_acts.specs.Steps.{FindsKeeping}
+use Rattle.pal_acts.specs.Steps.{FindsBy}
 use Rattle.pal_text.proofs.Cuts.{told_on}
 use Rattle.pal_acts.proofs.Places.{turned_more}
 use Rattle.pal_acts.proofs.Coded.{stops_keeping}
@@ -22,7 +22,7 @@ returns-in_err-keep-clause-refused g c =
     let acts : List PlacedAct = c.args.acts.now in
     let within : c.loop-at.at < length acts = omega arith in
     let σ : Values = known c.args.symbols.now.permanent.now.entries c.args.symbols.now.own.entries in
-    told_on c.from_residual.result c.in_err-keep.field-0.0 (FindsKeeping σ acts) c.from_residual.ensures.1
+    told_on c.from_residual.result c.in_err-keep.field-0.0 (FindsBy σ acts) c.from_residual.ensures.1
     (stops_keeping σ acts c.loop-at.at (shown c.get.result) c.loop-at.here within c.get.ensures c.loop-at.invariant.2 c.loop-at.invariant.1 c.in_err-keep.field-0.0 c.in_err-keep.ensures.refused)
 
 pub loop-at-init : goal.loop-at-init

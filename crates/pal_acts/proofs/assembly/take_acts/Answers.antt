@@ -49,24 +49,3 @@ returns-in-Err-Fault-clause-refused g c =
         ),
       );
     }))
-
-pub returns-in-Err-NoMemory-clause-refused : goal.returns-in-Err-NoMemory-clause-refused
-returns-in-Err-NoMemory-clause-refused g c =
-    let acts : List PlacedAct = c.args.acts.now in
-    let within : c.loop-at.at < length acts = omega arith in
-    let next : PlacedAct = shown c.get-next.result in
-    let kept : c.loop-at.symbols.permanent.now.entries ≡ c.args.symbols.now.permanent.now.entries = c.loop-at.invariant.2 in
-    let asks = rw c.in-Err-NoMemory.field-0-is at c.in-Err-NoMemory.ensures.refused in
-    rw (← kept) (record {
-      earlier = reverse (take c.loop-at.at acts);
-      next = next;
-      later = drop (c.loop-at.at + 1) acts;
-      parts = split_at acts c.loop-at.at next within c.get-next.ensures;
-      such = (
-        c.loop-at.symbols.own.entries,
-        asks.0,
-        c.loop-at.invariant.0,
-        ap (λ l. taken c.loop-at.symbols.permanent.now.entries 1024 c.loop-at.symbols.own.entries l next.terms next.act) (sym c.loop-at.invariant.1) ∙ asks.1,
-        asks.2,
-      );
-    })

@@ -1,24 +1,11 @@
-use Rattle.std.proofs.Common.{rules, Err, ◌≡◌, ◌∙◌, ap, false, length, map}
-use Rattle.std.proofs.lemmas.List.{length-map}
-use Rattle.pal_text.proofs.Cuts.{told_on}
+use Rattle.std.proofs.Common.{rules, Err, ◌≡◌, map}
 use Rattle.pal_acts.specs.Permanent.{permanent_symbols}
 use Rattle.pal_asm.specs.Listings.{Lists}
 use Rattle.pal_asm.specs.Programs.{image_of, listing_of, symbols_of}
 use Rattle.pal_asm.specs.Sources.{Means}
-use Rattle.source_commands.specs.AssembleText.{IsAssemblyFault, IsListFault}
-use Rattle.source_commands.specs.SourceTexts.{is_bad_number}
-use Rattle.source_commands.proofs.AssembleLemmas.{listed_as, not_listed}
+use Rattle.source_commands.proofs.AssembleLemmas.{listed_as}
 use Rattle.source_commands.proofs.LaterLemmas.{parts_read, parts_refused}
 use Rattle.source_commands.proofs.assembling.list.Goals as goal
-
-pub returns-in_err-text-clause-faults : goal.returns-in_err-text-clause-faults
-returns-in_err-text-clause-faults g c =
-    let refused : IsAssemblyFault c.args.profile (map (λ part. part.items) c.in_ok-parts.parts.items) c.in_err-text.field-0.0 = search rules in
-    let number : is_bad_number (length (map g.R.ByteSource.remaining c.args.sources.now)) ≡ false = ap is_bad_number (length-map c.args.sources.now g.R.ByteSource.remaining) ∙ c.in_ok-parts.ensures.number in
-    told_on c.from_residual-in_err-text.result c.in_err-text.field-0.0
-    (IsListFault c.args.profile (map g.R.ByteSource.mark c.read_parts.new.sources) (map g.R.ByteSource.remaining c.args.sources.now) (map g.R.ByteSource.remaining c.read_parts.new.sources))
-    c.from_residual-in_err-text.ensures.1
-    (not_listed c.args.profile _ _ _ (map (λ part. part.items) c.in_ok-parts.parts.items) c.in_err-text.field-0.0 number c.in_ok-parts.ensures.read refused)
 
 pub returns-in_err-parts-clause-order : goal.returns-in_err-parts-clause-order
 returns-in_err-parts-clause-order g c =

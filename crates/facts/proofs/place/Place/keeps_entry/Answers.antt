@@ -1,5 +1,5 @@
 use Rattle.std.proofs.Common.{◌∙◌, sym}
-use Rattle.facts.proofs.AskingLemmas.{either_way, no_entry}
+use Rattle.facts.proofs.AskingLemmas.{no_entry}
 use Rattle.facts.proofs.place.Place.keeps_entry.Goals as goal
 
 pub returns-then-not-is_entry : goal.returns-then-not-is_entry

@@ -1,7 +1,7 @@
 //! What the operator and the reader do in the run of a no, in words, and how to look at it. This is tested, not proved.
 
 use crate::hints::CommandFiles;
-use command_parts::message::Message;
+use command_parts::message::{Message, MessageWriter};
 use command_parts::visible::visible_text;
 use search_commands::verifying::Answer;
 use std::alloc::{AllocError, Global};
@@ -10,16 +10,11 @@ use std::fmt::Write;
 /// How many of their acts are listed at most.
 const MOST_ACTS: usize = 8;
 
-/// A number that a text spells in these digits; 0 if it is none.
-fn number_of(text: &str, radix: u32) -> u32 {
-    u32::from_str_radix(text, radix).unwrap_or(0)
-}
-
 /// How many steps a line of a list of events stands for.
 fn steps_of(line: &str) -> u32 {
     match line.strip_prefix("step") {
         Some("") => 1,
-        Some(count) => number_of(count.trim_ascii(), 10),
+        Some(count) => u32::from_str_radix(count.trim_ascii(), 10).unwrap_or(0),
         None => 0,
     }
 }
@@ -28,7 +23,8 @@ fn steps_of(line: &str) -> u32 {
 /// a step, and for what the printer and the punch do by themselves.
 fn push_act(text: &mut String, line: &str, steps: u32) -> Result<(), AllocError> {
     let (act, value) = line.split_once(' ').unwrap_or((line, ""));
-    let character = char::from((number_of(value, 8) & 0o177) as u8);
+    let byte = u32::from_str_radix(value, 8).unwrap_or(0) & 0o177;
+    let character = char::from(byte as u8);
     match act {
         "key" if character.is_ascii_graphic() => {
             writeln!(

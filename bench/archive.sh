@@ -4,12 +4,8 @@
 # verified from the tape alone, and what was found is saved; then each is checked with the certificate that was saved. For each of
 # the three, the script prints the least time by the clock of three runs, and checks that each tape gets a yes.
 # PDP8 names a built program to be used in place of the one in this repository.
-set -euo pipefail
-top=$(cd "$(dirname "$0")/.." && pwd)
-program=${PDP8:-$top/crates/pdp8/out/pdp8}
-work=$(mktemp -d)
-trap 'rm -r "$work"' EXIT
-[ -x "$program" ] || (cd "$top/crates/pdp8" && rt run <stdin >"$work/built" 2>&1) || { cat "$work/built"; exit 1; }
+. "$(dirname "$0")/setup.bash"
+[ -x "$program" ] || build pdp8
 cd "$work"
 for number in $(seq -w 0 999); do
     # The first two letters differ from tape to tape, and have channel 8 set.

@@ -4,15 +4,10 @@
 # run on a source of one word, which is the time that the program takes to start, and the difference, which is the time for the
 # source itself. For our program, it also prints how much memory it used at most for either source.
 # usage: bench/assembler.sh [RUNS]; PALBART names a palbart other than /usr/bin/palbart.
-set -euo pipefail
-top=$(cd "$(dirname "$0")/.." && pwd)
+. "$(dirname "$0")/setup.bash"
 runs=${1:-50}
 palbart=${PALBART:-/usr/bin/palbart}
-work=$(mktemp -d)
-trap 'rm -r "$work"' EXIT
-# Building the program also runs it once; what this run prints is discarded.
-(cd "$top/crates/pdp8" && rt run <stdin >"$work/built" 2>&1) || { cat "$work/built"; exit 1; }
-program=$top/crates/pdp8/out/pdp8
+[ -x "$program" ] || build pdp8
 
 python3 - "$work/large.pal" <<'PYTHON'
 import sys

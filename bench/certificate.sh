@@ -5,12 +5,8 @@
 # PDP8 names a built program to be used in place of the one in this repository. PLAIN names the source of the same checker in plain
 # Rust, with the arguments `bench-check TAPE DECLARATION CERTIFICATE ROUNDS`: it is built by `rustc -O`, and reads the same texts in
 # turn with our program. Then the time to start the program is subtracted from our time, and the two rates are compared.
-set -euo pipefail
-top=$(cd "$(dirname "$0")/.." && pwd)
-program=${PDP8:-$top/crates/pdp8/out/pdp8}
-work=$(mktemp -d)
-trap 'rm -r "$work"' EXIT
-[ -x "$program" ] || (cd "$top/crates/pdp8" && rt run <stdin >"$work/built" 2>&1) || { cat "$work/built"; exit 1; }
+. "$(dirname "$0")/setup.bash"
+[ -x "$program" ] || build pdp8
 TIMEFORMAT=%R
 # The least time of eleven calls with this certificate; the answer must begin with this text.
 least() {

@@ -3,13 +3,9 @@
 # tracked cells and two equations, with 64 cells and 32 equations, and then with the same in plain Rust (rustc -O). Prints for each the
 # least processor time of seven runs, because other work on the machine slows a run down and never speeds it up.
 # usage: bench/facts.sh [THOUSANDS]
-set -euo pipefail
-top=$(cd "$(dirname "$0")/.." && pwd)
+. "$(dirname "$0")/setup.bash"
 thousands=${1:-1000}
-work=$(mktemp -d)
-trap 'rm -r "$work"' EXIT
-# Building the program also runs it once; what this run prints is discarded.
-(cd "$top/crates/speed" && rt run >"$work/built" 2>&1) || { cat "$work/built"; exit 1; }
+build speed
 program=$top/crates/speed/out/speed
 few=$((thousands / 20 + 1))
 rustc -O -o "$work/plain" "$top/bench/facts/plain.rs"

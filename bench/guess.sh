@@ -2,12 +2,8 @@
 # Times `pdp8 guess` on programs of 7, 14 and 28 pages that guess/make.py makes, as the least of seven calls for each, and checks that
 # `check` accepts each certificate. A program of twice the size should take at most 2.2 times as long.
 # PDP8 names a built program to be used in place of the one in this repository.
-set -euo pipefail
-top=$(cd "$(dirname "$0")/.." && pwd)
-program=${PDP8:-$top/crates/pdp8/out/pdp8}
-work=$(mktemp -d)
-trap 'rm -r "$work"' EXIT
-[ -x "$program" ] || (cd "$top/crates/pdp8" && rt run <stdin >"$work/built" 2>&1) || { cat "$work/built"; exit 1; }
+. "$(dirname "$0")/setup.bash"
+[ -x "$program" ] || build pdp8
 TIMEFORMAT=%U
 for pages in 7 14 28; do
     python3 "$top/bench/guess/make.py" "$pages" "$work/$pages"

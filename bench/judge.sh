@@ -9,14 +9,9 @@
 # which is built by rustc -O and timed in turn with ours. Its arguments are `bench-check TAPE DECLARATION CERTIFICATE ROUNDS`, and the
 # first line that it prints is `parse SECONDS judge SECONDS seconds per round`, with the means of its rounds. As for our program, the
 # least of nine figures is printed.
-set -euo pipefail
-top=$(cd "$(dirname "$0")/.." && pwd)
-program=${PDP8:-$top/crates/pdp8/out/pdp8}
-speed=${SPEED:-$top/crates/speed/out/speed}
-work=$(mktemp -d)
-trap 'rm -r "$work"' EXIT
-[ -x "$program" ] || (cd "$top/crates/pdp8" && rt run <stdin >"$work/built" 2>&1) || { cat "$work/built"; exit 1; }
-[ -x "$speed" ] || (cd "$top/crates/speed" && rt run >"$work/built" 2>&1) || { cat "$work/built"; exit 1; }
+. "$(dirname "$0")/setup.bash"
+[ -x "$program" ] || build pdp8
+[ -x "$speed" ] || build speed
 if [ -n "${PLAIN:-}" ]; then
     rustc --edition 2024 -O -o "$work/plain" "$PLAIN" 2>"$work/built" || { cat "$work/built"; exit 1; }
 fi

@@ -5,14 +5,10 @@
 # is compiled by rustc and timed in turn with our program. Its arguments are the output of `pdp8 dump`, the declaration, a file for the
 # events, millions of steps, and the seed.
 # usage: bench/refute.sh [MILLIONS [RUNS]]
-set -euo pipefail
-top=$(cd "$(dirname "$0")/.." && pwd)
+. "$(dirname "$0")/setup.bash"
 millions=${1:-20}
 runs=${2:-9}
-program=${PDP8:-$top/crates/pdp8/out/pdp8}
-work=$(mktemp -d)
-trap 'rm -r "$work"' EXIT
-[ -x "$program" ] || (cd "$top/crates/pdp8" && rt run <stdin >"$work/built" 2>&1) || { cat "$work/built"; exit 1; }
+[ -x "$program" ] || build pdp8
 [ -z "${PLAIN:-}" ] || rustc -O -o "$work/plain" "$PLAIN" 2>"$work/told" || { cat "$work/told"; exit 1; }
 
 # The processor time, in seconds, of a command.

@@ -5,12 +5,8 @@
 # number of bytes of the page. A page should take at most 50 ms.
 # PDP8 names a built program to be used in place of the one in this repository.
 # usage: bench/report.sh [FOLDER..]
-set -euo pipefail
-top=$(cd "$(dirname "$0")/.." && pwd)
-program=${PDP8:-$top/crates/pdp8/out/pdp8}
-work=$(mktemp -d)
-trap 'rm -r "$work"' EXIT
-[ -x "$program" ] || (cd "$top/crates/pdp8" && rt run <stdin >"$work/built" 2>&1) || { cat "$work/built"; exit 1; }
+. "$(dirname "$0")/setup.bash"
+[ -x "$program" ] || build pdp8
 TIMEFORMAT='%U %S'
 # The least of eleven calls, in milliseconds of processor time.
 least() {

@@ -13,19 +13,13 @@
 # contains run-time checks, and is slower.
 #
 # usage: bench/run.sh [ROUNDS]; a round has 33,558,529 instructions. SIMH names a simulator other than /usr/bin/pdp8.
-set -euo pipefail
-top=$(cd "$(dirname "$0")/.." && pwd)
+. "$(dirname "$0")/setup.bash"
 rounds=${1:-6}
 calls=${CALLS:-40}
 old=${OLD:-}
-program=${PDP8:-$top/crates/pdp8/out/pdp8}
 simh=${SIMH:-/usr/bin/pdp8}
-work=$(mktemp -d)
-trap 'rm -r "$work"' EXIT
-# Building the program also runs it once; what this run prints is discarded.
-(cd "$top/crates/speed" && rt run >"$work/built" 2>&1) || { cat "$work/built"; exit 1; }
-[ -z "$old" ] || [ -x "$program" ] || (cd "$top/crates/pdp8" && rt run <stdin >"$work/built" 2>&1) || { cat "$work/built"; exit 1; }
-speed=$top/crates/speed/out/speed
+build speed
+[ -z "$old" ] || [ -x "$program" ] || build pdp8
 
 if ! echo quit | "$simh" 2>&1 | grep -q 'PDP-8 simulator'; then
     echo "bench/run.sh: SIMH's pdp8 is not installed, so its column is left out"

@@ -2,12 +2,8 @@
 # Times the whole program pdp8 on the small tape of its stored run, and `pdp8 check` on HELLO. The figure is the time by the clock for
 # one call, from its start to its end: the mean of a hundred calls, and of five such means the least. PDP8 names a built program to be
 # used in place of the one in this repository.
-set -euo pipefail
-top=$(cd "$(dirname "$0")/.." && pwd)
-program=${PDP8:-$top/crates/pdp8/out/pdp8}
-work=$(mktemp -d)
-trap 'rm -r "$work"' EXIT
-[ -x "$program" ] || (cd "$top/crates/pdp8" && rt run <stdin >"$work/built" 2>&1) || { cat "$work/built"; exit 1; }
+. "$(dirname "$0")/setup.bash"
+[ -x "$program" ] || build pdp8
 "$program" assemble "$work/hello.bin" "$top/examples/hello.pal"
 run() { "$program" <"$top/crates/pdp8/stdin" >/dev/null; }
 check() { "$program" check "$work/hello.bin" "$top/examples/hello.declaration" "$top/examples/hello.certificate" >/dev/null; }

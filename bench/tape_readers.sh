@@ -2,11 +2,7 @@
 # Times a million rounds of a program that copies a tape from the reader to the punch and, in turn, the same rounds without reader and
 # punch. Prints for each the least processor time of nine runs, and the ratio of the first time to the second.
 # usage: bench/tape_readers.sh, after the program pdp8 has been built
-set -euo pipefail
-top=$(cd "$(dirname "$0")/.." && pwd)
-program=${PDP8:-$top/crates/pdp8/out/pdp8}
-work=$(mktemp -d)
-trap 'rm -r "$work"' EXIT
+. "$(dirname "$0")/setup.bash"
 "$program" assemble "$work/copier.bin" "$top/examples/copier.pal"
 head -c 1000000 /dev/zero | tr '\0' '\125' >"$work/frames"
 # The run without a tape has the same program, changed so that it behaves as if the reader's flag were always set: it punches in the

@@ -1,12 +1,9 @@
 #!/bin/bash
 # Times writing and reading the fullest tape, 4096 words on 8228 frames, a thousand times each. Prints the microseconds for writing
 # the tape once and for reading it once, each the least of seven runs.
-set -euo pipefail
-top=$(cd "$(dirname "$0")/.." && pwd)
+. "$(dirname "$0")/setup.bash"
 times=${1:-1000}
-work=$(mktemp -d)
-trap 'rm -r "$work"' EXIT
-(cd "$top/crates/speed" && rt run >"$work/built" 2>&1) || { cat "$work/built"; exit 1; }
+build speed
 TIMEFORMAT=%U
 for _ in 1 2 3 4 5 6 7; do
     { time "$top/crates/speed/out/speed" tapes "$times" >"$work/tapes"; } 2>&1

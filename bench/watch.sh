@@ -4,14 +4,9 @@
 # Prints the median and the least processor time of each.
 # PDP8 names a built program to be used in place of the one in this repository.
 # usage: bench/watch.sh [RUNS]
-set -euo pipefail
-top=$(cd "$(dirname "$0")/.." && pwd)
+. "$(dirname "$0")/setup.bash"
 runs=${1:-25}
-work=$(mktemp -d)
-trap 'rm -r "$work"' EXIT
-program=${PDP8:-$top/crates/pdp8/out/pdp8}
-# Building the program also runs it once; what this run prints is discarded.
-[ -x "$program" ] || (cd "$top/crates/pdp8" && rt run <stdin >"$work/built" 2>&1) || { cat "$work/built"; exit 1; }
+[ -x "$program" ] || build pdp8
 
 cat >"$work/loop.pal" <<'SOURCE'
 *200

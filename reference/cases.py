@@ -14,45 +14,10 @@ import sets  # noqa: E402
 import tape  # noqa: E402
 import watch  # noqa: E402
 
-HELLO = second_reader.words(tape.written(pal.assemble([
-    (Path(__file__).parent.parent / "examples" / "hello.pal").read_bytes()]).image))
-HELLO_DECLARED = "start 0200\nmain 0200-0213\nsub 0214 body 0215-0221 returns 0\nvar 0010 0224\npause 0212\n"
-HELLO_CERTIFICATE = """PDP8-CERTIFICATE 1
-routine 0214 rank 00 sites 0207 writes -
-fact 0200 ac 0000-7777 link 01 offsets -
-fact 0201 ac 0000 link 0 offsets -
-fact 0202 ac 0000 link 0 offsets -
-fact 0203 ac 0224 link 0 offsets -
-fact 0204 ac 0000 link 0 offsets -
-cell 0010 0224
-fact 0205 ac 7773 link 0 offsets -
-cell 0010 0224
-fact 0206 ac 0000 link 0 offsets -
-cell 0010 0224-0230
-cell 0224 7773-7777
-equal 0010 0224 0231
-fact 0207 ac 0305,0310,0314,0317 link 0 offsets -
-cell 0010 0225-0231
-cell 0224 7773-7777
-equal 0010 0224 0232
-fact 0210 ac 0000 link 0 offsets -
-cell 0010 0225-0231
-cell 0224 7773-7777
-equal 0010 0224 0232
-fact 0211 ac 0000 link 0 offsets -
-cell 0010 0225-0231
-cell 0224 7774-7777
-equal 0010 0224 0231
-fact 0212 ac 0000 link 0 offsets -
-fact 0213 ac 0000 link 0 offsets -
-fact 0215 ac 0305,0310,0314,0317 link 0 offsets 0
-fact 0216 ac 0305,0310,0314,0317 link 0 offsets 0
-fact 0217 ac 0305,0310,0314,0317 link 0 offsets 0
-fact 0220 ac 0305,0310,0314,0317 link 0 offsets 0
-fact 0221 ac 0000 link 0 offsets 0
-exit 0214 0 ac 0000 link 0
-end
-"""
+TOP = Path(__file__).parent.parent
+HELLO = second_reader.words(tape.written(pal.assemble([(TOP / "examples" / "hello.pal").read_bytes()]).image))
+HELLO_DECLARED = (TOP / "examples" / "hello.declaration").read_text()
+HELLO_CERTIFICATE = (TOP / "tests" / "cases" / "programs" / "hello.certificate").read_text()
 ANY = "ac 0000-7777 link 01"
 
 SOURCES = [

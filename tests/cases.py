@@ -16,8 +16,8 @@ A page is Markdown. Of its code blocks, those of the following kinds are used, i
 A file, a tape or bytes with the word "rows" at the end of its fence is written again for each row of the tables below it, up to the next
 heading, with {1}, {2}, .. replaced. The files that a row writes are removed after it. The folder of a page contains the files of those
 programs of examples/ that the page names, and the tape NAME.bin of each of their sources NAME.pal. If the page names them, it also
-contains the folder tests/cases/programs as programs/, and the folders version3/, style-of-1970/ and style-of-1970-b/ of tests/. Statuses
-are compared in tests/cases/; other pages may leave them out. The cases of the pages in tests/cases/wrong/ are wrong on purpose: if the
+contains the folder tests/cases/programs as programs/, and the folders version3/, style-of-1970/ and style-of-1970-b/ of tests/, with their
+twins (twins.py). Statuses are compared in tests/cases/; other pages may leave them out. The cases of the pages in tests/cases/wrong/ are wrong on purpose: if the
 runner does not report each of them as wrong, that counts as a failure.
 
 usage: tests/cases.py PDP8 [PAGE..]    PDP8 is the built program; without pages, it runs all of tests/cases/, README.md and docs/
@@ -30,6 +30,8 @@ import subprocess
 import sys
 import tempfile
 from dataclasses import dataclass, field
+
+from twins import write_twins
 
 TOP = os.path.join(os.path.dirname(os.path.abspath(__file__)), '..')
 EXAMPLES = os.path.join(TOP, 'examples')
@@ -197,7 +199,7 @@ def fill(page, text):
     for name, parts in (('programs', ('cases', 'programs')), ('version3', ('version3',)), ('style-of-1970', ('style-of-1970',)),
                         ('style-of-1970-b', ('style-of-1970-b',))):
         if name + '/' in text:
-            shutil.copytree(os.path.join(TOP, 'tests', *parts), os.path.join(page.folder, name))
+            write_twins(shutil.copytree(os.path.join(TOP, 'tests', *parts), os.path.join(page.folder, name)))
     for name in sorted(os.listdir(EXAMPLES)):
         root, ending = os.path.splitext(name)
         if root.removesuffix('-broken') in words:

@@ -17,15 +17,16 @@ import tempfile
 
 TOP = os.path.join(os.path.dirname(os.path.abspath(__file__)), '..')
 PROGRAM = 'pdp8'
-LANE = 3.5 * 2 ** 30  # the memory that a check of a large crate takes, with some to spare
+LANE = 3e9  # the memory that a check of a large crate takes, with some to spare
+REST = 1e9  # the memory that is left for everything else
 LEFT_OUT = shutil.ignore_patterns('out', 'must-fail', 'more-edits')
 
 
 def lanes():
-    """How many crates can be proved side by side. rt ci would reserve four times the memory that a large crate takes."""
+    """How many crates can be proved side by side: two from 7 GB of free memory on, four from 13 GB. rt ci would reserve more."""
     with open('/proc/meminfo', encoding='utf-8') as file:
         free = next(int(line.split()[1]) * 1024 for line in file if line.startswith('MemAvailable:'))
-    return max(1, min(len(os.sched_getaffinity(0)), int(free / LANE)))
+    return max(1, min(len(os.sched_getaffinity(0)), int((free - REST) / LANE)))
 
 
 def uses():

@@ -5,6 +5,8 @@ texts that have faults. Prints nothing if all is well.
 import sys
 from pathlib import Path
 
+import twins
+
 HERE = Path(__file__).parent
 sys.path.insert(0, str(HERE.parent / "reference"))
 import check3  # noqa: E402
@@ -108,9 +110,13 @@ BELOW = [
 ]
 
 
-def program(name):
-    image, text = labels.program((HERE / "version3" / f"{name}.pal").read_bytes())
+def program_of(source):
+    image, text = labels.program(source)
     return image, watch.declaration(text.encode())
+
+
+def program(name):
+    return program_of((HERE / "version3" / f"{name}.pal").read_bytes())
 
 
 def judged(image, declared, text):
@@ -129,11 +135,12 @@ def read(text):
 
 
 def cases():
+    sources = twins.twins(HERE / "version3")
     whole = {name: (HERE / "version3" / f"{name}.certificate").read_text() for name in TWINS}
     for name, said in TWINS.items():
         image, declared = program(name)
         yield name, judged(image, declared, whole[name]), "yes"
-        twin, _ = program(name + "-broken")
+        twin, _ = program_of(sources[name + "-broken"])
         yield name, sum(twin.get(at) != word for at, word in image.items()) + abs(len(twin) - len(image)), 1
         yield name + "-broken", judged(twin, declared, whole[name]), said
         yield name, read(whole[name]), "good"

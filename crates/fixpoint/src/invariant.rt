@@ -65,7 +65,7 @@ impl Case {
         case
     }
 
-    /// The same for all words of the cell and the accumulator.
+    /// The case for all words of the cell and the accumulator, which is otherwise this one.
     pub(crate) fn without_words(&self) -> Case {
         let mut case = *self;
         case.value = None;

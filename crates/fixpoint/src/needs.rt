@@ -295,7 +295,7 @@ impl<A: Allocator + Copy> Needs<A> {
         self.before_call_of(program, at, entry)
     }
 
-    /// The same, where it is known what is called.
+    /// What is needed before a call of a known routine.
     fn before_call_of<D: Allocator>(
         &mut self,
         program: &AnalysedProgram<'_, D>,

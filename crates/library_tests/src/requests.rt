@@ -35,7 +35,7 @@ enum Call<'t> {
     Guess,
     /// HELLO's run, which is watched.
     Watch,
-    /// The same run where HELLO is certified.
+    /// The run of HELLO after its certificate was accepted.
     Run,
 }
 

@@ -3,7 +3,8 @@
 use crate::map::colour_of;
 use crate::report::{Finding, Report, claimed_of};
 use crate::writer::ReportWriter;
-use command_parts::sentence::Argument::{Address, Number, Offsets, Text};
+use command_parts::message::MessageWriter;
+use command_parts::sentence::Argument::{Number, Offsets, Text};
 use declaration::Routine;
 use diagnostics::verdicts::surplus_text::declared_offsets;
 use std::alloc::{AllocError, Allocator};
@@ -37,10 +38,16 @@ fn write_line<A: Allocator>(writer: &mut ReportWriter<'_, A>, caller: usize, cal
         .abs_diff(callee)
         .saturating_mul(ASIDE)
         .saturating_add(130);
-    let (from, to, aside) = (Number(from), Number(to), Number(aside));
     writer.fill(
         "<path class=l d=\"M130 {}C{} {} {} {} 130 {}\" />",
-        &[from, aside, from, aside, to, to],
+        &[
+            Number(from),
+            Number(aside),
+            Number(from),
+            Number(aside),
+            Number(to),
+            Number(to),
+        ],
     );
 }
 
@@ -128,7 +135,8 @@ impl<A: Allocator, D: Allocator, C: Allocator> Report<'_, A, D, C> {
     /// Writes the row of a routine in the table.
     fn write_routine_row(&self, writer: &mut ReportWriter<'_, A>, routine: &Routine) {
         let entry = routine.entry();
-        writer.fill("<tr><td>{}", &[Address(entry)]);
+        writer.put(b"<tr><td>");
+        let _ = writer.push_address(entry);
         self.write_claimed_columns(writer, entry);
         let offsets = declared_offsets(self.declaration, entry);
         writer.fill("<td>{}\n", &[Offsets(&offsets)]);

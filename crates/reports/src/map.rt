@@ -159,8 +159,8 @@ fn write_dot<A: Allocator>(
     writer: &mut ReportWriter<'_, A>,
     rows: &MapRows,
     at: Word,
-    class: &str,
-    size: &str,
+    class: &'static str,
+    size: &'static str,
 ) {
     let left = Number(left_of(at).saturating_add(STEP / 2));
     let top = Number(rows.top_of(at).saturating_add(STEP / 2));

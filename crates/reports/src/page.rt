@@ -173,7 +173,8 @@ fn write_reason<A: Allocator>(
 ) {
     writer.fill(fails, &[Address(at)]);
     writer.put(means);
-    writer.fill("{}</pre>\n", &[Bytes(why)]);
+    writer.say(why);
+    writer.put(b"</pre>\n");
 }
 
 /// Writes from which files the program was read, if they have names.

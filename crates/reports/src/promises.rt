@@ -3,10 +3,8 @@
 use crate::writer::ReportWriter;
 use command_parts::sentence::Argument::{Address, Addresses, Offset, Offsets, Text, Words};
 use declaration::{Assertion, Declaration, PlaceAssertion, ReturnAssertion, Subject};
+use diagnostics::verdicts::surplus_text::OFFSETS;
 use std::alloc::Allocator;
-
-/// How many offsets there are by which a routine may return.
-const MOST_OFFSETS: usize = 64;
 
 /// Writes an assertion: a link has one digit.
 fn write_assertion<A: Allocator>(writer: &mut ReportWriter<'_, A>, assertion: &Assertion) {
@@ -40,7 +38,7 @@ fn write_return_assertion<A: Allocator>(
     writer: &mut ReportWriter<'_, A>,
     returning: &ReturnAssertion,
 ) {
-    let template = if returning.offsets().count() < MOST_OFFSETS {
+    let template = if returning.offsets().count() < OFFSETS {
         "<li>whenever the routine {} returns by {}, "
     } else {
         "<li>whenever the routine {} returns, "

@@ -50,8 +50,24 @@ fn displayed_name<'n>(name: &'n str) -> &'n str {
     if name.is_empty() { "\"\"" } else { name }
 }
 
-/// Adds the line about a file that cannot be used in this way, and why if that is known. The number that the system gives
-/// to the reason is left out.
+/// Why a file cannot be used, as it follows what is said about the file; nothing if that is not known.
+fn reason_of(alloc: Global, error: &Option<io::Error>) -> Result<String, AllocError> {
+    let mut reason = String::new(alloc);
+    if let Some(error) = error {
+        write!(reason, ": {error}")?;
+    }
+    Ok(reason)
+}
+
+/// A reason without the number that the system gives to it.
+fn without_number<'r>(reason: &'r str) -> &'r str {
+    match reason.split_once(" (os error") {
+        Some((words, _)) => words,
+        None => reason,
+    }
+}
+
+/// Adds the line about a file that cannot be used in this way, and why if that is known.
 fn push_failure(
     alloc: Global,
     text: &mut String,
@@ -60,16 +76,9 @@ fn push_failure(
     error: &Option<io::Error>,
 ) -> Result<(), AllocError> {
     let shown = visible_text(alloc, displayed_name(name))?;
-    let Some(error) = error else {
-        return writeln!(text, "{shown} {problem}");
-    };
-    let mut reason = String::new(alloc);
-    write!(reason, "{error}")?;
-    let reason = match reason.split_once(" (os error") {
-        Some((words, _)) => words,
-        None => reason.as_str(),
-    };
-    writeln!(text, "{shown} {problem}: {reason}")
+    let reason = reason_of(alloc, error)?;
+    let words = without_number(&reason);
+    writeln!(text, "{shown} {problem}{words}")
 }
 
 /// The line about an input that cannot be opened or read: the first such input, if there is one. An input that can be

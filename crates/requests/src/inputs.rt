@@ -65,7 +65,8 @@ impl<R: Files> SeenFiles<'_, R> {
         };
         let mut is_known = false;
         for ending in save.endings() {
-            let path = [save.name, *ending].concat(alloc)?;
+            let mut path = String::from_str(alloc, save.name)?;
+            path.push_str(ending)?;
             is_known = self.sees_again(&path)? || is_known;
         }
         Ok(is_known)

@@ -255,9 +255,12 @@ impl<'r, R: Files> ResultFile<'r, R> {
         Ok(())
     }
 
-    /// Puts what was written in the place of the plain file at this path, or of nothing.
-    fn put_at(&self, path: &str) -> io::Result<()> {
+    /// Puts what was written in the place of the plain file at the path, or of nothing.
+    fn put_in_place(&self) -> io::Result<()> {
         let (rt, alloc) = (self.rt, self.alloc);
+        let Some(path) = &self.path else {
+            return Ok(());
+        };
         let old = old_file(rt, self.name)?;
         let replaced = replace(rt, alloc, path, &old, &self.bytes);
         let is_refused = matches!(&replaced, Err(error) if is_irreplaceable(error));
@@ -288,8 +291,8 @@ impl<'r, R: Files> ResultFile<'r, R> {
         if self.bytes.is_empty() {
             return Ok(());
         }
-        if let Some(path) = &self.path {
-            return self.put_at(path);
+        if self.path.is_some() {
+            return self.put_in_place();
         }
         if self.file.is_none() {
             self.make_empty()?;

@@ -4,6 +4,7 @@ use crate::completing::end_text;
 use control_flow::{above_seven, push_cells_ending, push_low_offsets, push_skips};
 use declaration::writing::{push_range, push_ranges};
 use declaration::{Declaration, Offsets, Routine};
+use diagnostics::verdicts::surplus_text::declared_offsets;
 use std::alloc::{AllocError, Allocator};
 use streams::text::{self, Words};
 use word12::Word;
@@ -41,18 +42,6 @@ pub(crate) fn set_of(offsets: &Offsets) -> WordSet {
     for index in 0..8usize {
         let offset = Word::from_index(index);
         if offsets.contains(offset) {
-            set.insert(offset);
-        }
-    }
-    set
-}
-
-/// The offsets at which a declared routine may return, whichever lines declare them.
-pub(crate) fn offsets_of<A: Allocator>(declaration: &Declaration<A>, entry: Word) -> WordSet {
-    let mut set = WordSet::empty();
-    for index in 0..64usize {
-        let offset = Word::from_index(index);
-        if declaration.has_offset(entry, offset) {
             set.insert(offset);
         }
     }
@@ -246,7 +235,7 @@ impl<'a, B: Allocator> Merging<'a, B> {
         }
         let other = routine_of(self.proposed.routines(), entry)?;
         let body = self.free(other.body());
-        let offsets = set_of(&other.offsets()).minus(&offsets_of(self.given, entry));
+        let offsets = set_of(&other.offsets()).minus(&declared_offsets(self.given, entry));
         if body.is_empty() && offsets.is_empty() {
             return None;
         }
@@ -287,7 +276,8 @@ impl<'a, B: Allocator> Merging<'a, B> {
         entries: &WordSet,
     ) -> Result<(), AllocError> {
         for entry in entries.iter() {
-            let lacking = offsets_of(self.proposed, entry).minus(&offsets_of(self.given, entry));
+            let given = declared_offsets(self.given, entry);
+            let lacking = declared_offsets(self.proposed, entry).minus(&given);
             let offsets = above_seven(&lacking);
             if !offsets.is_empty() {
                 push_skips(text, entry, &offsets)?;

@@ -14,7 +14,6 @@ use crate::asserting::keeps_assertions;
 use crate::completing::end_text;
 use crate::declaring::copy_of;
 use crate::keeping::keeps_lines;
-use crate::merging::offsets_of;
 use crate::narrowing::narrowed;
 use crate::returning::push_all_returns;
 use crate::verifying::certificate_for;
@@ -22,7 +21,9 @@ use bin_tape::Image;
 use command_parts::message::{Message, MessageWriter, Written};
 use command_parts::status::Fault;
 use declaration::{Declaration, DeclarationFault};
-use diagnostics::verdicts::surplus_text::{Shown, push_cells, push_routine_offsets};
+use diagnostics::verdicts::surplus_text::{
+    Shown, declared_offsets, push_cells, push_routine_offsets,
+};
 use std::alloc::{AllocError, Allocator};
 use wordset::WordSet;
 
@@ -121,7 +122,7 @@ fn push_lost_offsets<L: MessageWriter, A: Allocator, B: Allocator>(
 ) -> Written {
     for routine in less.routines() {
         let entry = routine.entry();
-        let offsets = offsets_of(given, entry).minus(&offsets_of(less, entry));
+        let offsets = declared_offsets(given, entry).minus(&declared_offsets(less, entry));
         push_routine_offsets(
             told,
             "--tight leaves out offsets by which the routine",

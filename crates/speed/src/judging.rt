@@ -6,7 +6,7 @@ use declaration::Declaration;
 use judge::{JudgeWorkspace, judge};
 use std::alloc::Allocator;
 
-/// How often of so many times a judge says yes.
+/// How often of so many times a judge accepts a program.
 #[inline(never)]
 pub fn accepted<A: Allocator>(
     image: &Image,
@@ -24,8 +24,8 @@ pub fn accepted<A: Allocator>(
     count
 }
 
-/// The same of a tape, a declaration and a certificate that stand one after another, the first two
-/// with so many bytes; none if they have more than there are.
+/// How often of so many times a judge accepts a tape, a declaration and a certificate that stand one after another, the
+/// first two with so many bytes; none if they have more than there are.
 pub fn accepted_of<A: Allocator + Copy>(
     alloc: A,
     bytes: &[u8],

@@ -241,6 +241,40 @@ fn said_of_link(set: &WordSet) -> &'static str {
     }
 }
 
+/// Adds which routine returns, and by which offset.
+fn push_place_of_return<L: MessageWriter>(text: &mut L, entry: Word, offset: usize) -> Written {
+    push_sentence(
+        text,
+        "The routine {} returns with offset {}; ",
+        &[Address(entry), Offset(offset)],
+    )
+}
+
+/// Adds what AC may be.
+fn push_accumulator<L: MessageWriter>(text: &mut L, set: &WordSet) -> Written {
+    let said = said_of_accumulator(set);
+    push_sentence(text, said, &[Words(set)])
+}
+
+/// Adds with what the routine of an entry returns by an offset, if it does.
+fn push_returned<L: MessageWriter, D: Allocator, C: Allocator>(
+    text: &mut L,
+    shown: &Shown<'_, D, C>,
+    entry: Word,
+    offset: usize,
+) -> Written
+    requires { offset < 64 }
+{
+    let accumulator = shown.returned(Register::Accumulator, entry, offset);
+    if accumulator.is_empty() {
+        return Ok(());
+    }
+    push_place_of_return(text, entry, offset)?;
+    push_accumulator(text, &accumulator)?;
+    let link = said_of_link(&shown.returned(Register::Link, entry, offset));
+    push_sentence(text, ", and the link {}\n", &[Text(link)])
+}
+
 /// Adds with what the routine of an entry returns.
 fn push_returns<L: MessageWriter, D: Allocator, C: Allocator>(
     text: &mut L,
@@ -248,19 +282,7 @@ fn push_returns<L: MessageWriter, D: Allocator, C: Allocator>(
     entry: Word,
 ) -> Written {
     for offset in 0..OFFSETS {
-        let accumulator = shown.returned(Register::Accumulator, entry, offset);
-        if accumulator.is_empty() {
-            continue;
-        }
-        let by = [Address(entry), Offset(offset)];
-        push_sentence(text, "The routine {} returns with offset {}; ", &by)?;
-        push_sentence(
-            text,
-            said_of_accumulator(&accumulator),
-            &[Words(&accumulator)],
-        )?;
-        let link = said_of_link(&shown.returned(Register::Link, entry, offset));
-        push_sentence(text, ", and the link {}\n", &[Text(link)])?;
+        push_returned(text, shown, entry, offset)?;
     }
     Ok(())
 }

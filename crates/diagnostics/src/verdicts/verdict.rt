@@ -1,10 +1,10 @@
 //! The line of a verdict.
 
 ghost use Rattle.std.specs.Prelude.{◌≡◌, ◌+◌, ◌++◌, ◌&&◌, nat_lt, codes, decimal, length, OnOk, IfOk};
-ghost use Rattle.wordset.specs.Words.{SameWords, some_below};
+ghost use Rattle.wordset.specs.Words.{SameWords, meet, some_below};
 ghost use Rattle.wordset.specs.Lanes.{words};
 ghost use Rattle.declaration.specs.DeclarationInCode.{meaning};
-ghost use Rattle.diagnostics.specs.CheckText.{condition_text, counted, in_bodies, is_halt, is_skipping, more_text, no_text, reads_text, verdict_status, verdict_text, widened_text, yes_text};
+ghost use Rattle.diagnostics.specs.CheckText.{condition_text, counted, in_bodies, is_halt, more_text, no_text, reads_text, verdict_status, verdict_text, widened_text, yes_text};
 
 use command_parts::status::Status;
 use declaration::Declaration;
@@ -166,11 +166,11 @@ fn is_skipping<D: Allocator>(declaration: &Declaration<D>, entry: Word) -> bool
     false
 }
 
-/// The routines that may return by offsets above 7.
-fn skipping<D: Allocator>(declaration: &Declaration<D>) -> WordSet
-    ensures { SameWords (words result) (is_skipping (meaning declaration.now)) }
+/// Those of the routines of these entries that may return by offsets above 7.
+fn skipping<D: Allocator>(declaration: &Declaration<D>, entries: &WordSet) -> WordSet
+    ensures { words result ≡ meet (words entries.now)
+        (λ e. some_below 64 (λ o. nat_lt 7 o && (meaning declaration.now).offset e o)) }
 {
-    let entries = declaration.entries();
     let mut found = WordSet::empty();
     for entry in entries.iter() {
         if is_skipping(declaration, entry) {
@@ -193,7 +193,8 @@ fn push_widened<A: Allocator, D: Allocator>(
     push_more(text, abandons, b" abandon place", b" abandon places")?;
     let moves = declaration.moves().count();
     push_more(text, moves, b" moved return", b" moved returns")?;
-    let skips = skipping(declaration).count();
+    let entries = declaration.entries();
+    let skips = skipping(declaration, &entries).count();
     push_more(text, skips, b" skip", b" skips")
 }
 

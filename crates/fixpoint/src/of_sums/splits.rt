@@ -65,7 +65,7 @@ impl Split {
         }
     }
 
-    /// The same, and those of the routines of some entries are distinguished by the call, if they are not yet.
+    /// Lets facts of the routines of some entries also be distinguished by the call, if they are not yet.
     pub fn by_calls(&self, entries: &WordSet) -> Option<Split> {
         if entries.is_subset(&self.called) {
             return None;
@@ -75,7 +75,7 @@ impl Split {
         Some(split)
     }
 
-    /// The same, and those of the routines of some entries are distinguished by how far the return word was incremented, and all
+    /// Lets facts of the routines of some entries also be distinguished by how far the return word was incremented, and all facts
     /// by the word of the accumulator.
     pub fn by_offsets_and_accumulator(&self, entries: &WordSet) -> Split {
         let mut split = *self;
@@ -84,21 +84,21 @@ impl Split {
         split
     }
 
-    /// The same, and those at some addresses and at the returns of some entries are distinguished by the link.
+    /// Lets facts at some addresses and at the returns of some entries also be distinguished by the link.
     pub fn by_links(&self, addresses: &WordSet) -> Split {
         let mut split = *self;
         split.links = self.links.union(addresses);
         split
     }
 
-    /// The same, and they are distinguished by the word of a cell.
+    /// Lets facts also be distinguished by the word of a cell.
     pub fn by_cell(&self, cell: Word) -> Split {
         let mut split = self.of_cells(&WordSet::one(cell));
         split.cell = Some(cell);
         split
     }
 
-    /// The same, and all facts speak of some cells.
+    /// Lets all facts also speak of some cells.
     pub fn of_cells(&self, cells: &WordSet) -> Split {
         let mut split = *self;
         split.told = self.told.union(cells);

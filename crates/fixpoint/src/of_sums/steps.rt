@@ -323,7 +323,7 @@ impl<A: Allocator + Copy> SumSearch<A> {
         }
     }
 
-    /// The same at an address.
+    /// Lets what is known reach the facts at an address.
     fn reach_fact<D: Allocator, F: KnownFact>(
         &mut self,
         program: &SumProgram<'_, D>,

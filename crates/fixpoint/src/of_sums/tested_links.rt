@@ -21,7 +21,7 @@ pub(crate) fn tested_links<D: Allocator>(program: &AnalysedProgram<'_, D>) -> Wo
     tested
 }
 
-/// The same, with the addresses of the words that lead there, from the last on.
+/// Adds the addresses of the words that lead to these, from the last on.
 fn with_words_before<D: Allocator>(program: &AnalysedProgram<'_, D>, tested: &WordSet) -> WordSet {
     let mut found = *tested;
     for more in 0..4096usize {
@@ -57,7 +57,7 @@ fn is_tested_from<D: Allocator>(
     }
 }
 
-/// The same for a memory reference.
+/// Whether the link before a memory reference is tested later.
 fn is_tested_from_reference<D: Allocator>(
     program: &AnalysedProgram<'_, D>,
     at: Word,

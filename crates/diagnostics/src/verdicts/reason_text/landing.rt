@@ -6,7 +6,7 @@ use command_parts::sentence::Argument::{Address, Digit, Octal, Offset, Text};
 use command_parts::sentence::push_sentence;
 use domain::Location;
 use reasons::{Counterexample, LandingFailure};
-use word12::Word;
+use word12::{Link, Word};
 
 /// Adds what is possible, or of an equation, what it says.
 fn push_gap<L: MessageWriter>(text: &mut L, gap: &Counterexample) -> Written {
@@ -59,6 +59,11 @@ fn push_may_hold<L: MessageWriter>(text: &mut L, name: &Location, word: Word) ->
     }
 }
 
+/// Adds that something is so if the link is this one.
+fn push_link<L: MessageWriter>(text: &mut L, link: Link) -> Written {
+    push_sentence(text, "if the link is {}, ", &[Digit(link)])
+}
+
 /// Adds what is possible though the facts or the exit lines, of which one and all are called so, exclude it.
 fn push_possible<L: MessageWriter>(
     text: &mut L,
@@ -70,11 +75,11 @@ fn push_possible<L: MessageWriter>(
         LandingFailure::NoFact | LandingFailure::OtherBody => Ok(()),
         LandingFailure::Excluded(gap) => push_excluded(text, gap, one),
         LandingFailure::ExcludedUnder(link, gap) => {
-            push_sentence(text, "if the link is {}, ", &[Digit(*link)])?;
+            push_link(text, *link)?;
             push_excluded(text, gap, one)
         }
         LandingFailure::NotTaken(link, name, word) => {
-            push_sentence(text, "if the link is {}, ", &[Digit(*link)])?;
+            push_link(text, *link)?;
             push_may_hold(text, name, *word)?;
             push_sentence(text, ", which none of {} allows", &[Text(all)])
         }

@@ -1,11 +1,20 @@
-use Rattle.std.proofs.Common.{rules, Err, ◌≡◌, map}
+use Rattle.std.proofs.Common.{rules, Err, ◌≡◌, ◌∙◌, ap, false, length, map}
+use Rattle.std.proofs.lemmas.List.{length-map}
 use Rattle.pal_acts.specs.Permanent.{permanent_symbols}
 use Rattle.pal_asm.specs.Listings.{Lists}
 use Rattle.pal_asm.specs.Programs.{image_of, listing_of, symbols_of}
 use Rattle.pal_asm.specs.Sources.{Means}
+use Rattle.command_parts.specs.declared.status.Fault.TheVariants as fault
+use Rattle.source_commands.specs.SourceTexts.{is_bad_number}
 use Rattle.source_commands.proofs.AssembleLemmas.{listed_as}
 use Rattle.source_commands.proofs.LaterLemmas.{parts_read, parts_refused}
 use Rattle.source_commands.proofs.assembling.list.Goals as goal
+
+pub returns-in_err-text-clause-faults : goal.returns-in_err-text-clause-faults
+returns-in_err-text-clause-faults g c =
+    let number : is_bad_number (length (map g.R.ByteSource.remaining c.args.sources.now)) ≡ false = ap is_bad_number (length-map c.args.sources.now g.R.ByteSource.remaining) ∙ c.in_ok-parts.ensures.number in
+    let told : c.from_residual-in_err-text.result ≡ Err fault.NoMemory = search rules in
+    rw told number
 
 pub returns-in_err-parts-clause-order : goal.returns-in_err-parts-clause-order
 returns-in_err-parts-clause-order g c =

@@ -25,6 +25,6 @@ loop-entry-preserved g c =
 
 pub returns : goal.returns
 returns g c =
-    let high = (λ (e : ℕ). some_below 64 (λ o. nat_lt 7 o && (meaning c.args.declaration.now).offset e o)) in
-    let kept = kept_all c.entries.result c.loop-entry.found high (all_gathered c.loop-entry.invariant c.in-None.ensures.steps) in
-    λ v small. ap (λ (s : Words). s v) kept ∙ ap (λ (b : Bool). b && high v) (c.entries.ensures v small)
+    kept_all c.args.entries.now c.loop-entry.found
+    (λ (e : ℕ). some_below 64 (λ o. nat_lt 7 o && (meaning c.args.declaration.now).offset e o))
+    (all_gathered c.loop-entry.invariant c.in-None.ensures.steps)

@@ -9,4 +9,4 @@ use Rattle.diagnostics.proofs.verdicts.verdict.skipping.Given as goal
 -- those of the entries so far
 abbrev pub invariant-loop-entry : goal.invariant-loop-entry
 invariant-loop-entry g l =
-    Gathered (λ e v. (v == e) && some_below 64 (λ o. nat_lt 7 o && (meaning l.declaration).offset e o)) (words l.entries) nothing (words l.found) l.entry-iterator
+    Gathered (λ e v. (v == e) && some_below 64 (λ o. nat_lt 7 o && (meaning l.declaration).offset e o)) (words l.fn.entries) nothing (words l.found) l.entry-iterator

@@ -50,20 +50,13 @@ fn displayed_name<'n>(name: &'n str) -> &'n str {
     if name.is_empty() { "\"\"" } else { name }
 }
 
-/// Why a file cannot be used, as it follows what is said about the file; nothing if that is not known.
-fn reason_of(alloc: Global, error: &Option<io::Error>) -> Result<String, AllocError> {
+/// Adds why a file cannot be used. The number that the system gives to the reason is left out.
+fn push_reason(alloc: Global, text: &mut String, error: &io::Error) -> Result<(), AllocError> {
     let mut reason = String::new(alloc);
-    if let Some(error) = error {
-        write!(reason, ": {error}")?;
-    }
-    Ok(reason)
-}
-
-/// A reason without the number that the system gives to it.
-fn without_number<'r>(reason: &'r str) -> &'r str {
+    write!(reason, "{error}")?;
     match reason.split_once(" (os error") {
-        Some((words, _)) => words,
-        None => reason,
+        Some((words, _)) => text.push_str(words),
+        None => text.push_str(&reason),
     }
 }
 
@@ -76,9 +69,12 @@ fn push_failure(
     error: &Option<io::Error>,
 ) -> Result<(), AllocError> {
     let shown = visible_text(alloc, displayed_name(name))?;
-    let reason = reason_of(alloc, error)?;
-    let words = without_number(&reason);
-    writeln!(text, "{shown} {problem}{words}")
+    write!(text, "{shown} {problem}")?;
+    if let Some(error) = error {
+        text.push_str(": ")?;
+        push_reason(alloc, text, error)?;
+    }
+    text.push_str("\n")
 }
 
 /// The line about an input that cannot be opened or read: the first such input, if there is one. An input that can be

@@ -189,6 +189,17 @@ fn is_irreplaceable(error: &io::Error) -> bool {
     )
 }
 
+/// Puts a result in the place of the plain file with this name, which is at this path, or of nothing.
+fn put_at<R: Files>(rt: &R, alloc: Global, name: &str, path: &str, bytes: &[u8]) -> io::Result<()> {
+    let old = old_file(rt, name)?;
+    let replaced = replace(rt, alloc, path, &old, bytes);
+    let is_refused = matches!(&replaced, Err(error) if is_irreplaceable(error));
+    if old.is_some() && is_refused {
+        return write_in_place(rt, alloc, name, bytes);
+    }
+    replaced
+}
+
 /// A file for a result.
 #[derive(Drop)]
 pub struct ResultFile<'r, R: Files> {
@@ -255,21 +266,6 @@ impl<'r, R: Files> ResultFile<'r, R> {
         Ok(())
     }
 
-    /// Puts what was written in the place of the plain file at the path, or of nothing.
-    fn put_in_place(&self) -> io::Result<()> {
-        let (rt, alloc) = (self.rt, self.alloc);
-        let Some(path) = &self.path else {
-            return Ok(());
-        };
-        let old = old_file(rt, self.name)?;
-        let replaced = replace(rt, alloc, path, &old, &self.bytes);
-        let is_refused = matches!(&replaced, Err(error) if is_irreplaceable(error));
-        if old.is_some() && is_refused {
-            return write_in_place(rt, alloc, self.name, &self.bytes);
-        }
-        replaced
-    }
-
     /// Notes that memory was refused, if that is the error. Any other error is returned.
     fn note_memory(&mut self, done: io::Result<()>) -> io::Result<()> {
         if matches!(&done, Err(error) if error.kind() == ErrorKind::OutOfMemory) {
@@ -291,8 +287,8 @@ impl<'r, R: Files> ResultFile<'r, R> {
         if self.bytes.is_empty() {
             return Ok(());
         }
-        if self.path.is_some() {
-            return self.put_in_place();
+        if let Some(path) = &self.path {
+            return put_at(self.rt, self.alloc, self.name, path, &self.bytes);
         }
         if self.file.is_none() {
             self.make_empty()?;

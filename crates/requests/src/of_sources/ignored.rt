@@ -77,29 +77,6 @@ fn read_of(alloc: Global, part: &[u8]) -> Result<(usize, bool), AllocError>
     }
 }
 
-/// Says on standard error how many lines with `/:` the declaration within a source does not contain, and why.
-fn report_unread_lines<R: Eprint>(
-    rt: &R,
-    alloc: Global,
-    parts: &[Vec<u8>],
-) -> Result<(), AllocError> {
-    let (mut after, mut behind) = (0usize, 0usize);
-    let mut is_read = true;
-    for part in parts {
-        let (stop, goes_on) = if is_read {
-            read_of(alloc, part)?
-        } else {
-            (0, false)
-        };
-        behind = behind.saturating_add(count_behind(&part[..stop]));
-        after = after.saturating_add(count_marked(&part[stop..]));
-        is_read = goes_on;
-    }
-    tell_ignored(rt, after, "what comes after $ or PAUSE is not read");
-    tell_ignored(rt, behind, "only a /: that begins its comment counts");
-    Ok(())
-}
-
 /// Says on standard error how many lines with `/:` are ignored, and why: another declaration is given, the lines come
 /// after the end of a part, or `/:` does not begin their comments.
 ///
@@ -112,13 +89,24 @@ pub(crate) fn report_ignored_lines<R: Eprint>(
     parts: &[Vec<u8>],
     origin: DeclarationOrigin,
 ) -> Result<(), AllocError> {
-    if origin != DeclarationOrigin::File {
-        return report_unread_lines(rt, alloc, parts);
-    }
-    let mut replaced = 0usize;
+    let mut is_read = origin != DeclarationOrigin::File;
+    let reason = if is_read {
+        "what comes after $ or PAUSE is not read"
+    } else {
+        "the operand DECLARATION replaces them"
+    };
+    let (mut unread, mut behind) = (0usize, 0usize);
     for part in parts {
-        replaced = replaced.saturating_add(count_marked(part));
+        let (stop, goes_on) = if is_read {
+            read_of(alloc, part)?
+        } else {
+            (0, false)
+        };
+        unread = unread.saturating_add(count_marked(&part[stop..]));
+        behind = behind.saturating_add(count_behind(&part[..stop]));
+        is_read = goes_on;
     }
-    tell_ignored(rt, replaced, "the operand DECLARATION replaces them");
+    tell_ignored(rt, unread, reason);
+    tell_ignored(rt, behind, "only a /: that begins its comment counts");
     Ok(())
 }

@@ -36,6 +36,7 @@ static RUN_STANDARD_INPUT: [&str; 3] = ["pdp8", "run", "-"];
 const WAITING: &str = "pdp8 waits for a tape on standard input; pdp8 help lists the commands\n";
 
 /// Which standard streams are terminals.
+#[derive(Clone, Copy)]
 pub struct Terminals {
     /// Whether standard input is one.
     pub reads: bool,
